@@ -15,7 +15,7 @@ use Rattle.page_format.specs.Reading.{walk, countOf, items, nameOf, sectionEnd,
 use Rattle.page_format.proofs.Records.{fault-none-size}
 use Rattle.page_format.proofs.Sections.{section-parts}
 use Rattle.page_format.proofs.Walks.{walk-first}
-use Rattle.page.specs.Wholes.{sectionRead, NameAt}
+use Rattle.page.specs.Wholes.{sectionRead, Span}
 use Rattle.page.proofs.Tallies.{length-items, section-ok}
 
 -- i names have been passed, and the next one begins at the byte `at`
@@ -89,14 +89,18 @@ reached-first p e h =
     let z : countOf Names p - 0 ≡ countOf Names p = omega arith in
     record { sound = (e, rw z (s .1)); left = rw z refl; place = refl }
 
-pub name-at : (p : List ℕ) (k at e n : ℕ) → sectionEnd Names p 0 ≡ Ok e → k < countOf Names p → Reached p k at → n ≡ getD p at 0 → NameAt p k (at + 1) (take ((at + 1 + n) - (at + 1)) (drop (at + 1) p))
-name-at p k at e n s h r en =
-    let m : (at + 1 + n) - (at + 1) ≡ getD p at 0 = omega arith in
-    let f = reached-here p k at h r in
+pub span-at : (p : List ℕ) (count e k at : ℕ) → sectionRead Names p 0 ≡ Ok (count, e) → k < count → Reached p k at → Span p k (at + 1) (getD p at 0)
+span-at p count e k at s h r =
+    let n = section-ok Names p 0 count e s in
+    let b : k < countOf Names p = omega arith in
+    let f = reached-here p k at b r in
     let l = length-drop (at + 1) p in
     let t = length-take-le (getD p at 0) (drop (at + 1) p) (omega arith) in
     let d = drop-drop 1 at p in
     let g = first-byte p at in
     let i : nameOf (drop at p) ≡ take (getD p at 0) (drop (at + 1) p) = rw (d, g) refl in
     let q = r .place in
-    rw m (record { sound = (e, s); below = h; name = sym i ∙ sym (reached-name p k at h r); begins = omega arith; lies = ap (λ (j : ℕ). take j (drop (at + 1) p)) (sym t) })
+    record {
+      within = f;
+      name = record { sound = (e, n .0); below = b; name = sym i ∙ sym (reached-name p k at b r); begins = omega arith; lies = ap (λ (j : ℕ). take j (drop (at + 1) p)) (sym t) };
+    }

@@ -1,5 +1,5 @@
 -- One record more of a walk over a section.
-use mathlib.Core.Path.{_≡_, refl}
+use mathlib.Core.Path.{_≡_, refl, sym}
 use mathlib.Core.List.{List}
 use Prim.Native.Nat.{ℕ, suc, _+_, _-_, _<_, _≤_}
 use native.Mathlib.Numerals.{add-one}
@@ -10,14 +10,15 @@ use Rattle.std.proofs.shelf.Lists.{drop-drop}
 use Rattle.std.specs.declared.option.Option.{Option}
 use Rattle.std.specs.declared.option.Option.the-variants.{Some, None}
 use Rattle.std.specs.declared.result.Result.the-variants.{Ok, Err}
+use Rattle.fault.specs.declared.Located.{Located}
 use Rattle.fault.specs.declared.PageFault.{PageFault}
 use Rattle.fault.specs.declared.Section.{Section}
 use Rattle.fault.specs.declared.Section.the-variants.{Names, Runs, Edits}
 use Rattle.page_format.specs.Grammar.{limit}
 use Rattle.page_format.specs.Reading.{walk, located, unless, recordFault, recordSize, countFault, countOf, sectionRest}
-use Rattle.page.specs.Steps.{sized, countedAt}
+use Rattle.page.specs.Steps.{sized, countedAt, endedAt}
 
--- what a size or a fault says of the record
+-- what a size says of the record
 pub sized-ok : (x : Section) (s : List ℕ) (n : ℕ) → sized x s ≡ Ok n → (recordFault x s ≡ None) × (recordSize x s ≡ n)
 sized-ok x s n e = known (recordFault x s) refl e
   where
@@ -25,29 +26,27 @@ sized-ok x s n e = known (recordFault x s) refl e
     known None eo h = (eo, cc)
     known (Some f) eo h = absurd (let z : _≡_ {A = ℕ} 0 1 = cc in omega arith)
 
-pub sized-err : (x : Section) (s : List ℕ) (f : PageFault) → sized x s ≡ Err f → recordFault x s ≡ Some f
-sized-err x s f e = known (recordFault x s) refl e
-  where
-    known : (o : Option PageFault) → recordFault x s ≡ o → unless o Err (Ok (recordSize x s)) ≡ Err f → recordFault x s ≡ Some f
-    known None eo h = absurd (let z : _≡_ {A = ℕ} 0 1 = cc in omega arith)
-    known (Some g) eo h = cc
-
 -- past a sound record the walk goes on at the next one
-pub walk-more : (x : Section) (p : List ℕ) (count k at n : ℕ) → k < count → sized x (drop at p) ≡ Ok n → walk x (count - k) (suc k) at (drop at p) ≡ walk x (count - (k + 1)) (suc (k + 1)) (at + n) (drop (at + n) p)
-walk-more x p count k at n h e =
-    let w = sized-ok x (drop at p) n e in
-    let m : count - k ≡ suc (count - (k + 1)) = omega arith in
-    rw (m, w .0, w .1, drop-drop n at p, add-one k) refl
+pub walk-more : (x : Section) (p : List ℕ) (count k at e : ℕ) → k < count → endedAt x p (k + 1) at ≡ Ok e → walk x (count - k) (suc k) at (drop at p) ≡ walk x (count - (k + 1)) (suc (k + 1)) e (drop e p)
+walk-more x p count k at e h q = known (recordFault x (drop at p)) refl q
+  where
+    m : count - k ≡ suc (count - (k + 1))
+    m = omega arith
+
+    known : (o : Option PageFault) → recordFault x (drop at p) ≡ o → unless o (λ f. Err (located f x (k + 1) at)) (Ok (at + recordSize x (drop at p))) ≡ Ok e → walk x (count - k) (suc k) at (drop at p) ≡ walk x (count - (k + 1)) (suc (k + 1)) e (drop e p)
+    known None eo w = let n : at + recordSize x (drop at p) ≡ e = cc in rw (m, eo, drop-drop (recordSize x (drop at p)) at p, n, add-one k) refl
+    known (Some f) eo w = absurd (let z : _≡_ {A = ℕ} 0 1 = cc in omega arith)
 
 -- and at a faulty one it stops there
-pub walk-stop : (x : Section) (p : List ℕ) (count k at : ℕ) (f : PageFault) → k < count → sized x (drop at p) ≡ Err f → walk x (count - k) (suc k) at (drop at p) ≡ Err (located f x (k + 1) at)
-walk-stop x p count k at f h e =
-    let w = sized-err x (drop at p) f e in
-    let m : count - k ≡ suc (count - (k + 1)) = omega arith in
-    rw (m, w, add-one k) refl
+pub walk-stop : (x : Section) (p : List ℕ) (count k at : ℕ) (f : Located) → k < count → endedAt x p (k + 1) at ≡ Err f → walk x (count - k) (suc k) at (drop at p) ≡ Err f
+walk-stop x p count k at f h q = known (recordFault x (drop at p)) refl q
+  where
+    m : count - k ≡ suc (count - (k + 1))
+    m = omega arith
 
-pub walk-none : (x : Section) (p : List ℕ) (count k at : ℕ) → count ≤ k → walk x (count - k) (suc k) at (drop at p) ≡ Ok at
-walk-none x p count k at h = let m : count - k ≡ 0 = omega arith in rw m refl
+    known : (o : Option PageFault) → recordFault x (drop at p) ≡ o → unless o (λ g. Err (located g x (k + 1) at)) (Ok (at + recordSize x (drop at p))) ≡ Err f → walk x (count - k) (suc k) at (drop at p) ≡ Err f
+    known None eo w = absurd (let z : _≡_ {A = ℕ} 0 1 = cc in omega arith)
+    known (Some g) eo w = let e : suc k ≡ k + 1 = sym (add-one k) in rw (m, eo, e) w
 
 -- where the count is sound, what is left of the section is a walk
 pub rest-from-count : (x : Section) (p : List ℕ) (start count read at : ℕ) → countedAt x p start ≡ Ok count → sectionRest x p start read at ≡ walk x (count - read) (suc read) at (drop at p)

@@ -27,6 +27,10 @@ counted x s = unless (countFault x s) Err (Ok (countOf x s))
 abbrev pub countedAt : Section → List ℕ → ℕ → Result ℕ Located
 countedAt x p start = unless (countFault x (drop start p)) (λ f. Err (located f x 0 start)) (Ok (countOf x (drop start p)))
 
+-- where the record ends that begins at a byte, the section's k-th, or its fault with its place
+abbrev pub endedAt : Section → List ℕ → (k at : ℕ) → Result ℕ Located
+endedAt x p k at = unless (recordFault x (drop at p)) (λ f. Err (located f x k at)) (Ok (at + recordSize x (drop at p)))
+
 -- the size of the next record, none after the last, or the fault
 abbrev pub next-size : Section → List ℕ → Cursor → Result (Option ℕ) Located
 next-size x p c =

@@ -42,3 +42,8 @@ pub record NameAt (p : List ℕ) (k place : ℕ) (part : List ℕ) : Type 0 wher
   pub name : part ≡ getD (sectionItems Names p 0) k []
   pub begins : place ≡ 2 + length (joined nameBytes (take k (sectionItems Names p 0)))
   pub lies : part ≡ take (length part) (drop place p)
+
+-- so many bytes of the page from that place on are the k-th name
+pub record Span (p : List ℕ) (k place size : ℕ) : Type 0 where
+  pub within : place + size ≤ length p
+  pub name : NameAt p k place (take size (drop place p))

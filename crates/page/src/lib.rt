@@ -8,6 +8,7 @@ mod laws;
 mod reader;
 mod record;
 mod scan;
+mod take;
 mod whole;
 
 pub use cursor::Cursor;

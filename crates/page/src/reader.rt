@@ -2,7 +2,7 @@
 //! section that it is at.
 
 ghost use mathlib.Core.Path.{_≡_};
-ghost use Prim.Native.Nat.{ℕ, _+_};
+ghost use Prim.Native.Nat.{ℕ};
 ghost use lib.ListN.{length};
 ghost use Rattle.std.specs.Results.{Cases};
 ghost use Rattle.std.specs.declared.result.Result.the-variants.{Ok, Err};
@@ -11,12 +11,13 @@ ghost use Rattle.page.specs.Steps.{countedAt, opening, rest-of};
 ghost use Rattle.page.specs.Reads.{Next, Opened, edits-end};
 use crate::cursor::Cursor;
 use crate::record::Record;
-use crate::record::edit_record;
 use crate::scan::count_at;
-use crate::scan::following;
 use crate::scan::open_at;
 use crate::scan::page_end;
 use crate::scan::section_end;
+use crate::take::next_edit;
+use crate::take::next_name;
+use crate::take::next_run;
 use fault::Located;
 use fault::Section;
 
@@ -85,13 +86,11 @@ impl<'a> AtNames<'a> {
         ensures same { λ _. ⌜ now (self .exit) .page ≡ now (self .entry) .page ⌝ }
         ensures next { λ r. ⌜ Next Names (now (now (self .entry) .page)) (now (self .entry) .cursor) (now (self .exit) .cursor) r ⌝ }
     {
-        let Some(size) = following(self.page, Section::Names, self.cursor)? else {
+        let Some((record, cursor)) = next_name(self.page, self.cursor)? else {
             return Ok(None);
         };
-        let at = self.cursor.at;
-        let part = &self.page[at + 1..at + size];
-        self.cursor = self.cursor.past(size);
-        Ok(Some(Record::Name(part)))
+        self.cursor = cursor;
+        Ok(Some(record))
     }
 
     /// Checks the names that are left, and moves on to the runs; a fault hands the reader back.
@@ -124,13 +123,11 @@ impl<'a> AtRuns<'a> {
         ensures same { λ _. ⌜ now (self .exit) .page ≡ now (self .entry) .page ⌝ }
         ensures next { λ r. ⌜ Next Runs (now (now (self .entry) .page)) (now (self .entry) .cursor) (now (self .exit) .cursor) r ⌝ }
     {
-        let Some(size) = following(self.page, Section::Runs, self.cursor)? else {
+        let Some((record, cursor)) = next_run(self.page, self.cursor)? else {
             return Ok(None);
         };
-        let at = self.cursor.at;
-        let part = &self.page[at..at + size];
-        self.cursor = self.cursor.past(size);
-        Ok(Some(Record::Add(part)))
+        self.cursor = cursor;
+        Ok(Some(record))
     }
 
     /// Checks the runs that are left, and moves on to the edits; a fault hands the reader back.
@@ -163,14 +160,11 @@ impl<'a> AtEdits<'a> {
         ensures same { λ _. ⌜ now (self .exit) .page ≡ now (self .entry) .page ⌝ }
         ensures next { λ r. ⌜ Next Edits (now (now (self .entry) .page)) (now (self .entry) .cursor) (now (self .exit) .cursor) r ⌝ }
     {
-        let Some(size) = following(self.page, Section::Edits, self.cursor)? else {
+        let Some((record, cursor)) = next_edit(self.page, self.cursor)? else {
             return Ok(None);
         };
-        let at = self.cursor.at;
-        let kind = self.page[at];
-        let part = &self.page[at + 1..at + size];
-        self.cursor = self.cursor.past(size);
-        Ok(Some(edit_record(kind, part)))
+        self.cursor = cursor;
+        Ok(Some(record))
     }
 
     /// Checks the edits that are left and that no byte follows them; a fault hands the reader back.

@@ -8,7 +8,7 @@ ghost use Rattle.std.specs.Results.{Cases};
 ghost use Rattle.fault.specs.declared.Section.the-variants.{Names, Runs, Edits};
 ghost use Rattle.page_format.specs.Grammar.{limit};
 ghost use Rattle.page_format.specs.Reading.{atEnd, lettered, located as placed, recordSize, sectionRest};
-ghost use Rattle.page.specs.Steps.{sized, counted, countedAt, next-size, opening, Fits};
+ghost use Rattle.page.specs.Steps.{sized, counted, countedAt, endedAt, next-size, opening, Fits};
 use crate::cursor::Cursor;
 use fault::Located;
 use fault::PageFault;
@@ -163,6 +163,16 @@ pub(crate) fn following(
     }
 }
 
+/// Where the record ends that begins at a byte, or its fault; its number is for the fault's place.
+fn record_end(page: &[u8], section: Section, number: u16, at: usize) -> Result<usize, Located>
+    ensures { λ r. ⌜ r ≡ endedAt section (now (page .entry)) number at ⌝ }
+{
+    match record_size(section, rest(page, at)) {
+        Ok(size) => Ok(at + size),
+        Err(fault) => Err(located(fault, section, number, at)),
+    }
+}
+
 /// Where the section ends, from the cursor on, or its first fault there.
 pub(crate) fn section_end(page: &[u8], section: Section, cursor: Cursor) -> Result<usize, Located>
     ensures { λ r. ⌜ r ≡ sectionRest section (now (page .entry)) (cursor .start) (cursor .read) (cursor .at) ⌝ }
@@ -170,10 +180,7 @@ pub(crate) fn section_end(page: &[u8], section: Section, cursor: Cursor) -> Resu
     let count = count_at(page, section, cursor.start)?;
     let mut at = cursor.at;
     for k in cursor.read..count {
-        match record_size(section, rest(page, at)) {
-            Ok(size) => at += size,
-            Err(fault) => return Err(located(fault, section, k + 1, at)),
-        }
+        at = record_end(page, section, k + 1, at)?;
     }
     Ok(at)
 }

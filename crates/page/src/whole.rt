@@ -5,7 +5,7 @@ ghost use Prim.Native.Nat.{_+_};
 ghost use Rattle.std.specs.Options.{Cases as BySome};
 ghost use Rattle.std.specs.Results.{Cases};
 ghost use Rattle.page_format.specs.Reading.{reading};
-ghost use Rattle.page.specs.Wholes.{sectionRead, tallied, Encodes, NoPage, NoName, NameAt};
+ghost use Rattle.page.specs.Wholes.{sectionRead, tallied, Encodes, NoPage, NoName, NameAt, Span};
 use crate::scan::count_at;
 use crate::scan::open_at;
 use crate::scan::page_end;
@@ -44,10 +44,10 @@ pub fn check(page: &[u8]) -> Result<Counts, Located>
     tally(page)
 }
 
-/// The name of vault k as its part of the page, and the byte where that part begins; none where the
-/// names have a fault or are not more than k.
-pub fn name_of<'a>(page: &'a [u8], k: usize) -> Option<(usize, &'a [u8])>
-    ensures { λ r. ⌜ BySome r (NoName (now (page .entry)) k) (λ x. NameAt (now (page .entry)) k (x .0) (now (x .1))) ⌝ }
+/// Where the letters of vault k's name begin, and how many there are; none where the names have a
+/// fault or are not more than k.
+fn name_span(page: &[u8], k: usize) -> Option<(usize, usize)>
+    ensures { λ r. ⌜ BySome r (NoName (now (page .entry)) k) (λ x. Span (now (page .entry)) k (x .0) (x .1)) ⌝ }
 {
     let Ok((count, _)) = section(page, Section::Names, 0) else {
         return None;
@@ -59,6 +59,14 @@ pub fn name_of<'a>(page: &'a [u8], k: usize) -> Option<(usize, &'a [u8])>
     for _i in 0..k {
         at += 1 + page[at] as usize;
     }
-    let from = at + 1;
-    Some((from, &page[from..from + page[at] as usize]))
+    Some((at + 1, page[at] as usize))
+}
+
+/// The name of vault k as its part of the page, and the byte where that part begins; none where the
+/// names have a fault or are not more than k.
+pub fn name_of<'a>(page: &'a [u8], k: usize) -> Option<(usize, &'a [u8])>
+    ensures { λ r. ⌜ BySome r (NoName (now (page .entry)) k) (λ x. NameAt (now (page .entry)) k (x .0) (now (x .1))) ⌝ }
+{
+    let (from, size) = name_span(page, k)?;
+    Some((from, &page[from..from + size]))
 }
