@@ -14,24 +14,25 @@ use std::alloc::AllocError;
 use std::alloc::Global;
 use std::test::*;
 
-fn refused(
+/// The page is refused so, at that place.
+fn refuses(
+    page: &[u8],
     fault: PageFault,
     section: Section,
     record: u16,
     byte: usize,
-) -> Result<Counts, Located> {
-    Err(Located {
-        fault,
-        place: Place {
-            section,
-            record,
-            byte,
-        },
-    })
+) -> Result<(), Fail> {
+    let place = Place {
+        section,
+        record,
+        byte,
+    };
+    check_eq(check(page), Err(Located { fault, place }))
 }
 
-fn counted(names: u16, runs: u16, edits: u16) -> Result<Counts, Located> {
-    Ok(Counts { names, runs, edits })
+/// The page has so many records.
+fn has(page: &[u8], names: u16, runs: u16, edits: u16) -> Result<(), Fail> {
+    check_eq(check(page), Ok(Counts { names, runs, edits }))
 }
 
 /// Bytes of one value, so many times, at the end of a page.
@@ -69,65 +70,52 @@ fn full_page(heap: Global, names: u8, runs: u16, edits: u16) -> Result<Vec<u8>, 
 #[test]
 fn counts_at_their_limits(rt: LibcRuntime) -> Result<(), Fail> {
     let heap = rt.alloc();
-    check_eq(check(&full_page(heap, 0, 0, 0)?), counted(0, 0, 0))?;
-    check_eq(
-        check(&full_page(heap, 64, 1024, 2048)?),
-        counted(64, 1024, 2048),
-    )?;
-    check_eq(
-        check(&full_page(heap, 65, 0, 0)?),
-        refused(PageFault::CountAboveLimit, Section::Names, 0, 0),
-    )?;
-    check_eq(
-        check(&full_page(heap, 2, 1025, 0)?),
-        refused(PageFault::CountAboveLimit, Section::Runs, 0, 5),
-    )?;
-    check_eq(
-        check(&full_page(heap, 0, 2, 2049)?),
-        refused(PageFault::CountAboveLimit, Section::Edits, 0, 31),
-    )
+    let high = PageFault::CountAboveLimit;
+    has(&full_page(heap, 0, 0, 0)?, 0, 0, 0)?;
+    has(&full_page(heap, 64, 1024, 2048)?, 64, 1024, 2048)?;
+    refuses(&full_page(heap, 65, 0, 0)?, high, Section::Names, 0, 0)?;
+    refuses(&full_page(heap, 2, 1025, 0)?, high, Section::Runs, 0, 5)?;
+    refuses(&full_page(heap, 0, 2, 2049)?, high, Section::Edits, 0, 31)
 }
 
 #[test]
 fn names_at_their_limits(rt: LibcRuntime) -> Result<(), Fail> {
     let heap = rt.alloc();
-    let bad = refused(PageFault::BadName, Section::Names, 1, 1);
-    check_eq(check(&one_name(heap, 1, 33)?), counted(1, 0, 0))?;
-    check_eq(check(&one_name(heap, 24, 126)?), counted(1, 0, 0))?;
-    check_eq(check(&one_name(heap, 0, 97)?), bad)?;
-    check_eq(check(&one_name(heap, 25, 97)?), bad)?;
-    check_eq(check(&one_name(heap, 255, 97)?), bad)?;
-    check_eq(check(&one_name(heap, 1, 32)?), bad)?;
-    check_eq(check(&one_name(heap, 24, 127)?), bad)
+    has(&one_name(heap, 1, 33)?, 1, 0, 0)?;
+    has(&one_name(heap, 24, 126)?, 1, 0, 0)?;
+    refuses(
+        &one_name(heap, 0, 97)?,
+        PageFault::BadName,
+        Section::Names,
+        1,
+        1,
+    )?;
+    refuses(
+        &one_name(heap, 25, 97)?,
+        PageFault::BadName,
+        Section::Names,
+        1,
+        1,
+    )?;
+    refuses(
+        &one_name(heap, 1, 32)?,
+        PageFault::BadName,
+        Section::Names,
+        1,
+        1,
+    )?;
+    refuses(
+        &one_name(heap, 24, 127)?,
+        PageFault::BadName,
+        Section::Names,
+        1,
+        1,
+    )
 }
 
 /// One name, one run, one cancel: 24 bytes.
-const SMALL: [u8; 24] = [
-    1,
-    1,
-    97,
-    0,
-    1,
-    0,
-    7,
-    0,
-    0,
-    0,
-    0,
-    0,
-    100,
-    0,
-    0,
-    0,
-    160,
-    0,
-    1,
-    0,
-    1,
-    2,
-    0,
-    7,
-];
+const SMALL: &[u8; 24] =
+    b"\x01\x01a\x00\x01\x00\x07\x00\x00\x00\x00\x00d\x00\x00\x00\xa0\x00\x01\x00\x01\x02\x00\x07";
 
 /// The section, record and first byte of what is cut where the small page ends after n bytes.
 fn cut_at(n: usize) -> (Section, u16, usize) {
@@ -143,73 +131,62 @@ fn cut_at(n: usize) -> (Section, u16, usize) {
 
 #[test]
 fn every_truncation() -> Result<(), Fail> {
+    let small: &[u8] = SMALL;
     for n in 0..24 {
         let (section, record, byte) = cut_at(n);
-        check_eq(
-            check(&SMALL[0..n]),
-            refused(PageFault::Short, section, record, byte),
-        )?;
+        refuses(&small[0..n], PageFault::Short, section, record, byte)?;
     }
-    check_eq(check(&SMALL), counted(1, 1, 1))
+    has(small, 1, 1, 1)
 }
 
 #[test]
 fn each_fault_at_its_first_place() -> Result<(), Fail> {
-    check_eq(check(b""), refused(PageFault::Short, Section::Names, 0, 0))?;
-    check_eq(
-        check(&[65]),
-        refused(PageFault::CountAboveLimit, Section::Names, 0, 0),
+    refuses(b"", PageFault::Short, Section::Names, 0, 0)?;
+    refuses(b"A", PageFault::CountAboveLimit, Section::Names, 0, 0)?;
+    refuses(b"\x01\x00", PageFault::BadName, Section::Names, 1, 1)?;
+    refuses(
+        b"\x00\x00\x00\x00\x01\x00",
+        PageFault::EditKind,
+        Section::Edits,
+        1,
+        5,
     )?;
-    check_eq(
-        check(&[1, 0]),
-        refused(PageFault::BadName, Section::Names, 1, 1),
-    )?;
-    check_eq(
-        check(&[0, 0, 0, 0, 1, 0]),
-        refused(PageFault::EditKind, Section::Edits, 1, 5),
-    )?;
-    check_eq(
-        check(&[0, 0, 0, 0, 0, 0]),
-        refused(PageFault::Excess, Section::Edits, 0, 5),
+    refuses(
+        b"\x00\x00\x00\x00\x00\x00",
+        PageFault::Excess,
+        Section::Edits,
+        0,
+        5,
     )
 }
 
 #[test]
 fn length_before_short_and_byte_after() -> Result<(), Fail> {
-    check_eq(
-        check(&[1, 25, 97]),
-        refused(PageFault::BadName, Section::Names, 1, 1),
+    refuses(b"\x01\x19a", PageFault::BadName, Section::Names, 1, 1)?;
+    refuses(b"\x01\x18a", PageFault::Short, Section::Names, 1, 1)?;
+    refuses(b"\x01\x18 ", PageFault::Short, Section::Names, 1, 1)?;
+    refuses(
+        b"\x00\x00\x00\x00\x01\x04",
+        PageFault::EditKind,
+        Section::Edits,
+        1,
+        5,
     )?;
-    check_eq(
-        check(&[1, 24, 97]),
-        refused(PageFault::Short, Section::Names, 1, 1),
-    )?;
-    check_eq(
-        check(&[1, 24, 32]),
-        refused(PageFault::Short, Section::Names, 1, 1),
-    )?;
-    check_eq(
-        check(&[0, 0, 0, 0, 1, 4]),
-        refused(PageFault::EditKind, Section::Edits, 1, 5),
-    )?;
-    check_eq(
-        check(&[0, 0, 0, 0, 1, 3]),
-        refused(PageFault::Short, Section::Edits, 1, 5),
+    refuses(
+        b"\x00\x00\x00\x00\x01\x03",
+        PageFault::Short,
+        Section::Edits,
+        1,
+        5,
     )
 }
 
 #[test]
 fn a_long_input_of_any_content(rt: LibcRuntime) -> Result<(), Fail> {
-    let mut page = Vec::new(rt.alloc());
-    push_many(&mut page, 0, 70_000)?;
-    check_eq(
-        check(&page),
-        refused(PageFault::Excess, Section::Edits, 0, 5),
-    )?;
-    let mut page = Vec::new(rt.alloc());
-    push_many(&mut page, 255, 70_000)?;
-    check_eq(
-        check(&page),
-        refused(PageFault::CountAboveLimit, Section::Names, 0, 0),
-    )
+    let mut zeros = Vec::new(rt.alloc());
+    push_many(&mut zeros, 0, 70_000)?;
+    refuses(&zeros, PageFault::Excess, Section::Edits, 0, 5)?;
+    let mut ones = Vec::new(rt.alloc());
+    push_many(&mut ones, 255, 70_000)?;
+    refuses(&ones, PageFault::CountAboveLimit, Section::Names, 0, 0)
 }

@@ -21,63 +21,9 @@ use page_format::EditPartialEq;
 use page_format::Retime;
 use std::test::*;
 
-/// Names `ab` and `c`, one run, and an edit of each kind.
-const PAGE: [u8; 54] = [
-    2,
-    2,
-    97,
-    98,
-    1,
-    99,
-    0,
-    1,
-    1,
-    2,
-    3,
-    4,
-    0,
-    0,
-    1,
-    0,
-    0,
-    1,
-    0,
-    0,
-    128,
-    1,
-    0,
-    3,
-    1,
-    4,
-    0,
-    5,
-    6,
-    0,
-    0,
-    0,
-    7,
-    0,
-    0,
-    0,
-    8,
-    0,
-    9,
-    2,
-    3,
-    232,
-    3,
-    0,
-    1,
-    0,
-    0,
-    0,
-    9,
-    255,
-    255,
-    255,
-    255,
-    0,
-];
+/// Names `ab` and `c`, one run, an edit of each kind, and one byte too many.
+const PAGE: &[u8; 54] =
+    b"\x02\x02ab\x01c\x00\x01\x01\x02\x03\x04\x00\x00\x01\x00\x00\x01\x00\x00\x80\x01\x00\x03\x01\x04\x00\x05\x06\x00\x00\x00\x07\x00\x00\x00\x08\x00\x09\x02\x03\xe8\x03\x00\x01\x00\x00\x00\x09\xff\xff\xff\xff\x00";
 
 fn to_runs(names: AtNames) -> Result<AtRuns, Located> {
     Ok(names.step()?)
@@ -91,22 +37,34 @@ fn to_end(edits: AtEdits) -> Result<usize, Located> {
     Ok(edits.step()?.len())
 }
 
-fn named(r: Option<Record>) -> Option<&[u8]> {
-    match r {
-        Some(Record::Name(part)) => Some(part),
-        _ => None,
+/// The next record is this name.
+fn names_next(names: &mut AtNames, name: &[u8]) -> Result<(), Fail> {
+    match names.next()? {
+        Some(Record::Name(part)) => check_eq(part, name),
+        _ => Err(Fail::new("no name")),
+    }
+}
+
+/// The next record says this edit.
+fn edits_next(edits: &mut AtEdits, edit: Edit) -> Result<(), Fail> {
+    match edits.next()? {
+        Some(record) => check_eq(record.edit(), Some(edit)),
+        None => Err(Fail::new("no edit")),
     }
 }
 
 #[test]
-fn records_in_their_order() -> Result<(), Fail> {
-    let mut names = AtNames::new(&PAGE[0..53]);
-    check_eq(names.count()?, 2)?;
-    check_eq(named(names.next()?).ok_or("a name")?, b"ab")?;
-    check_eq(named(names.next()?).ok_or("a name")?, b"c")?;
+fn names_in_their_order() -> Result<(), Fail> {
+    let mut names = AtNames::new(PAGE);
+    names_next(&mut names, b"ab")?;
+    names_next(&mut names, b"c")?;
     check(names.next()?.is_none())?;
-    check(names.next()?.is_none())?;
-    let mut runs = to_runs(names)?;
+    check(names.next()?.is_none())
+}
+
+#[test]
+fn runs_in_their_order() -> Result<(), Fail> {
+    let mut runs = to_runs(AtNames::new(PAGE))?;
     let run = runs.next()?.ok_or("a run")?;
     check_eq(
         run.add(),
@@ -119,30 +77,32 @@ fn records_in_their_order() -> Result<(), Fail> {
             fittings: 32_769,
         }),
     )?;
-    check(runs.next()?.is_none())?;
-    let mut edits = to_edits(runs)?;
-    let add = edits.next()?.ok_or("an add")?;
-    check_eq(
-        add.edit(),
-        Some(Edit::Add(Add {
+    check(runs.next()?.is_none())
+}
+
+#[test]
+fn edits_in_their_order() -> Result<(), Fail> {
+    let page: &[u8] = PAGE;
+    let mut edits = to_edits(to_runs(AtNames::new(&page[0..53]))?)?;
+    edits_next(
+        &mut edits,
+        Edit::Add(Add {
             run: 1024,
             from: 5,
             to: 6,
             start: 7,
             end: 8,
             fittings: 9,
-        })),
+        }),
     )?;
-    let cancel = edits.next()?.ok_or("a cancel")?;
-    check_eq(cancel.edit(), Some(Edit::Cancel(1000)))?;
-    let retime = edits.next()?.ok_or("a retime")?;
-    check_eq(
-        retime.edit(),
-        Some(Edit::Retime(Retime {
+    edits_next(&mut edits, Edit::Cancel(1000))?;
+    edits_next(
+        &mut edits,
+        Edit::Retime(Retime {
             run: 1,
             start: 9,
             end: 4_294_967_295,
-        })),
+        }),
     )?;
     check(edits.next()?.is_none())?;
     check_eq(to_end(edits)?, 53)
@@ -150,43 +110,38 @@ fn records_in_their_order() -> Result<(), Fail> {
 
 #[test]
 fn records_of_another_size_say_nothing() -> Result<(), Fail> {
-    check_eq(Record::Add(b"short").add(), None)?;
-    check_eq(Record::Cancel(b"abc").edit(), None)?;
-    check_eq(Record::Name(b"ab").edit(), None)?;
-    check_eq(Record::Cancel(b"ab").add(), None)
+    check(Record::Add(b"short").add().is_none())?;
+    check(Record::Cancel(b"abc").edit().is_none())?;
+    check(Record::Name(b"ab").edit().is_none())
+}
+
+fn told(fault: PageFault, section: Section, record: u16, byte: usize) -> Located {
+    let place = Place {
+        section,
+        record,
+        byte,
+    };
+    Located { fault, place }
 }
 
 #[test]
-fn a_fault_leaves_the_reader() -> Result<(), Fail> {
-    let excess = Located {
-        fault: PageFault::Excess,
-        place: Place {
-            section: Section::Edits,
-            record: 0,
-            byte: 53,
-        },
-    };
-    let edits = to_edits(to_runs(AtNames::new(&PAGE))?)?;
+fn a_refused_step_hands_the_reader_back() -> Result<(), Fail> {
+    let edits = to_edits(to_runs(AtNames::new(PAGE))?)?;
     let Err(refused) = edits.step() else {
         return Err(Fail::new("a byte follows the last record"));
     };
-    check_eq(refused.fault, excess)?;
+    check_eq(
+        refused.fault,
+        told(PageFault::Excess, Section::Edits, 0, 53),
+    )?;
     let mut edits = refused.reader;
-    let add = edits.next()?.ok_or("an add")?;
-    check(add.edit().is_some())
+    check(edits.next()?.is_some())
 }
 
 #[test]
 fn a_bad_count_shows_at_each_call() -> Result<(), Fail> {
-    let high = Located {
-        fault: PageFault::CountAboveLimit,
-        place: Place {
-            section: Section::Names,
-            record: 0,
-            byte: 0,
-        },
-    };
-    let mut names = AtNames::new(&[65]);
+    let high = told(PageFault::CountAboveLimit, Section::Names, 0, 0);
+    let mut names = AtNames::new(b"A");
     check(names.count() == Err(high))?;
     let Err(fault) = names.next() else {
         return Err(Fail::new("65 names"));
@@ -199,37 +154,31 @@ fn a_bad_count_shows_at_each_call() -> Result<(), Fail> {
 }
 
 #[test]
-fn a_record_after_a_good_one() -> Result<(), Fail> {
-    let bad = Located {
-        fault: PageFault::BadName,
-        place: Place {
-            section: Section::Names,
-            record: 2,
-            byte: 3,
-        },
-    };
-    let mut names = AtNames::new(&[2, 1, 97, 1, 32, 0, 0, 0, 0]);
-    check(names.next()?.is_some())?;
-    let Err(fault) = names.next() else {
-        return Err(Fail::new("a space in a name"));
-    };
-    check_eq(fault, bad)?;
-    let Err(again) = names.next() else {
-        return Err(Fail::new("a space in a name"));
-    };
-    check_eq(again, bad)
+fn a_fault_leaves_the_reader() -> Result<(), Fail> {
+    let mut names = AtNames::new(b"\x02\x01a\x01 \x00\x00\x00\x00");
+    names_next(&mut names, b"a")?;
+    for _ in 0..2 {
+        let Err(fault) = names.next() else {
+            return Err(Fail::new("a space in a name"));
+        };
+        check_eq(fault, told(PageFault::BadName, Section::Names, 2, 3))?;
+    }
+    Ok(())
+}
+
+/// Vault k has this name, which begins there.
+fn is_named(k: usize, place: usize, name: &[u8]) -> Result<(), Fail> {
+    let (at, part) = name_of(PAGE, k).ok_or("a name")?;
+    check_eq(at, place)?;
+    check_eq(part, name)
 }
 
 #[test]
 fn names_of_vaults() -> Result<(), Fail> {
-    let (place, name) = name_of(&PAGE, 0).ok_or("vault 0")?;
-    check_eq(place, 2)?;
-    check_eq(name, b"ab")?;
-    let (place, name) = name_of(&PAGE, 1).ok_or("vault 1")?;
-    check_eq(place, 5)?;
-    check_eq(name, b"c")?;
-    check(name_of(&PAGE, 2).is_none())?;
-    check(name_of(&PAGE, 18_446_744_073_709_551_615).is_none())?;
+    is_named(0, 2, b"ab")?;
+    is_named(1, 5, b"c")?;
+    check(name_of(PAGE, 2).is_none())?;
+    check(name_of(PAGE, 18_446_744_073_709_551_615).is_none())?;
     check(name_of(b"", 0).is_none())?;
-    check(name_of(&[2, 1, 97, 1, 32], 0).is_none()).note("a fault in a later name")
+    check(name_of(b"\x02\x01a\x01 ", 0).is_none()).note("a fault in a later name")
 }
