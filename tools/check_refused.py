@@ -3,8 +3,8 @@
 
 Each tools/refused/*.edit has four lines: `file`, `old` (standing once in that file), `new`, and
 `error`, the name that the checker gives to the refusal. The edit is applied to a copy of the
-repository, and the checker has to refuse that copy with `error[NAME]`. The copy is first checked
-as it is, so that a refusal is the edit's.
+repository, and the checker has to refuse that copy with `error[NAME]`. The libraries of the copy
+are first checked as they are; what the repository's target/ has of them is taken over.
 """
 import pathlib
 import shutil
@@ -54,9 +54,11 @@ def main():
         copy = pathlib.Path(folder)
         shutil.copy(ROOT / "crates.txt", copy)
         shutil.copytree(ROOT / "crates", copy / "crates")
-        printed, passed = check(copy, "pages")
+        if (ROOT / "target").exists():
+            shutil.copytree(ROOT / "target", copy / "target", ignore=shutil.ignore_patterns("must-fail"))
+        printed, passed = check(copy, "page")
         if not passed:
-            sys.exit("refusals: the repository itself is refused:\n" + printed[-3000:])
+            sys.exit("refusals: the readers themselves are refused:\n" + printed[-3000:])
         edits = sorted((ROOT / "tools" / "refused").glob("*.edit"))
         for path in edits:
             wrong = try_edit(copy, path)
