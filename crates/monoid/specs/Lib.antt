@@ -1,0 +1,6 @@
+pub mod Folds
+pub mod Deficits
+pub mod Steps
+pub mod Sets
+pub mod Seams
+pub mod Laws
