@@ -1,0 +1,9 @@
+pub mod Levels
+pub mod Ways
+pub mod Fifo
+pub mod Fittings
+pub mod Queues
+pub mod Links
+pub mod Laws
+pub mod Table
+pub mod Wrong
