@@ -64,6 +64,13 @@ try "$work/long.page" "$work/long.expected"
 echo "fault page 1 section 1 record 0 byte 0" > "$work/empty.expected"
 try "$work/empty.page" "$work/empty.expected"
 
+# An endless input: only its first 65,536 bytes are read, so the program ends.
+status=0
+timeout 60 bin/pages < /dev/zero > "$work/out" || status=$?
+echo "fault page 5 section 3 record 0 byte 5" > "$work/endless.expected"
+compare "/dev/zero" "$work/endless.expected" "on standard input" "$status"
+pages=$((pages + 1))
+
 if [[ $differences -ne 0 ]]; then
     echo "examples: $differences differences"
     exit 1
