@@ -1,5 +1,6 @@
 //! Books: what keeps entries, a 64-bit key and a monoid's value each, in strictly rising key, and
 //! folds any stretch of keys. The meaning of a book is its capacity and the list of its entries.
+#![tactic(auto)]
 
 ghost use Rattle.std.specs.Prelude.{◌≡◌, ℕ, ◌-◌, ◌≤◌, true, List, [], length};
 ghost use Rattle.std.specs.List.{slice_get};

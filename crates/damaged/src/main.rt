@@ -1,5 +1,6 @@
 //! Checks each page of a table: a line of standard input has a page's bytes in hexadecimal, and a
 //! line of standard output says what it is, its size and counts or its first fault.
+#![tactic(auto)]
 
 use anyhow::anyhow;
 use page::check;

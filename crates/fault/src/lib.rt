@@ -1,5 +1,6 @@
 //! Every refusal of the engine, in one place: the book's fault, which the plan's carries whole,
 //! which the page's carries whole, and where in a page a fault lies.
+#![tactic(auto)]
 
 ghost use Rattle.std.specs.Prelude.{◌≡◌, Some};
 ghost use Rattle.fault.specs.Numbers.{book_number, plan_number, page_number, section_number, layer_of};

@@ -3,6 +3,7 @@
 //! Every function here is a law: it does nothing, and its contract is a theorem about every timetable
 //! and every list of entries in rising key that holds exactly its events, departures or arrivals.
 //! The definitions and statements are in specs/, and docs/THEORY.md tells the argument of each.
+#![tactic(auto)]
 
 ghost use Rattle.figures.specs.Laws.{NeedIsRead, LevelIsRead, FittingsAreRead, SeamsTellChains, BlocksAreSound, NumbersAreRead, StopsAreRead, LinksAreRead};
 ghost use Rattle.figures.specs.Follows.{BooksFollow};

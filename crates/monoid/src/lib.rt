@@ -1,5 +1,6 @@
 //! Monoids: values with a unit and an associative join, kept in memory as plain records, and the
 //! one fold that serves them all. Three are here: the deficit summary, fittings and the seam.
+#![tactic(auto)]
 
 ghost use Rattle.std.specs.Prelude.{◌≡◌, ◌++◌, map};
 ghost use Rattle.monoid.specs.Folds.{total};

@@ -2,6 +2,7 @@
 //!
 //! A reader is at the names, at the runs, at the edits or at the end, and offers only the records of
 //! that section. `check` looks at a whole page, and `name_of` hands out one vault's name.
+#![tactic(auto)]
 
 mod reader;
 mod whole;

@@ -1,5 +1,6 @@
 //! The page format: what a page says, which bytes say it, and how bytes are read back, with the
 //! laws that tie the two. The readers of the crate `page` are proved against these definitions.
+#![tactic(auto)]
 
 ghost use Rattle.page_format.specs.Laws.{ReadsBack, WritesBack, OneReading, PlacesWithin};
 

@@ -1,4 +1,5 @@
 //! What the readers' calls come to, taken together.
+#![tactic(auto)]
 
 ghost use Rattle.page_laws.specs.Laws.{ReadersAgree, ReadersHandOut, NextKeeps, RecordsSay};
 

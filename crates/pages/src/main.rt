@@ -1,6 +1,7 @@
 //! Lists a page: the file named as the argument, or else standard input.
 //!
 //! A page with a fault is told in one line, and ends the program with status 1.
+#![tactic(auto)]
 
 use fault::Located;
 use page::{AtEdits, AtNames, AtRuns, Record, Refused, check};

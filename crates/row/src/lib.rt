@@ -1,5 +1,6 @@
 //! The row: a book that keeps its entries in rising key in one stretch of memory that the caller
 //! hands over and gets back.
+#![tactic(auto)]
 
 mod calls;
 mod entry;

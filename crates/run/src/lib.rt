@@ -1,4 +1,5 @@
 //! A run of the timetable, the check of its times, and the keys under which books keep it.
+#![tactic(auto)]
 
 ghost use Rattle.std.specs.Prelude.{◌≡◌};
 ghost use Rattle.run.specs.Minutes.{arrival_minute};

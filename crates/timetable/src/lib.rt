@@ -2,9 +2,11 @@
 //!
 //! Every function here is a law: it does nothing, and its contract is a theorem about every timetable.
 //! The definitions and statements are in specs/, and docs/THEORY.md tells the argument of each.
+#![tactic(auto)]
 
 ghost use Rattle.timetable.specs.Laws.{OneNeed, OneCriticalMinute, OneAnswer, TotalIsTheSum, SameIsShuffled, NoneWithFewer, OneQueue, FirstInIsThere, NumbersArePlaces, PlacesAreNumbers, FifoSendsTheNeed, BlocksAreChains, FifoCanBeDone, EachBoxOnce, TotalIsTheLeast};
 ghost use Rattle.timetable.specs.Links.{EachRunOnce, BlocksAreFixed, OneBefore, OneAfter, LinksUndo, AfterInTime, NeighboursAreLinks, WalkingGivesTheBlock};
+ghost use Rattle.timetable.specs.Table.{WorkedTable};
 ghost use Rattle.timetable.specs.Wrong.{WrongWordings};
 
 /// Every vault has exactly one need: the highest of 0 and its levels at the minutes at which runs start.
@@ -120,6 +122,11 @@ pub fn walking_gives_the_block()
 /// The total is the least number of boxes that any way can use, and first in, first out uses that many.
 pub fn total_is_the_least()
     ensures { TotalIsTheLeast }
+{}
+
+/// The worked table: levels, needs, links, blocks and fittings of the five runs of the example, and the totals that are commonly miscounted, computed against the definitions.
+pub fn worked_table()
+    ensures { WorkedTable }
 {}
 
 /// Twelve wrong wordings of the theorems, each refuted by a small timetable.
