@@ -3,8 +3,8 @@
 
 Each tools/refused/*.edit has four lines: `file`, `old` (standing once in that file), `new`, and
 `error`, the name that the checker gives to the refusal. The edit is applied to a copy of the
-repository, and the checker has to refuse that copy with `error[NAME]`. The libraries of the copy
-are first checked as they are; what the repository's target/ has of them is taken over.
+repository, and the checker has to refuse that copy with `error[NAME]`. The lister of the copy is
+first checked as it is, with the libraries that it stands on.
 """
 import pathlib
 import shutil
@@ -26,7 +26,7 @@ def read_edit(path):
 
 def check(copy, crate):
     """What `rt check` of a crate of the copy prints, and whether it passed."""
-    done = subprocess.run(["rt", "check", crate], cwd=copy, capture_output=True, text=True)
+    done = subprocess.run(["rt", "check"], cwd=copy / "crates" / crate, capture_output=True, text=True)
     return done.stdout + done.stderr, done.returncode == 0
 
 
@@ -53,12 +53,10 @@ def main():
     with tempfile.TemporaryDirectory() as folder:
         copy = pathlib.Path(folder)
         shutil.copy(ROOT / "crates.txt", copy)
-        shutil.copytree(ROOT / "crates", copy / "crates")
-        if (ROOT / "target").exists():
-            shutil.copytree(ROOT / "target", copy / "target", ignore=shutil.ignore_patterns("must-fail"))
-        printed, passed = check(copy, "page")
+        shutil.copytree(ROOT / "crates", copy / "crates", ignore=shutil.ignore_patterns("out"))
+        printed, passed = check(copy, "pages")
         if not passed:
-            sys.exit("refusals: the readers themselves are refused:\n" + printed[-3000:])
+            sys.exit("refusals: the lister itself is refused:\n" + printed[-3000:])
         edits = sorted((ROOT / "tools" / "refused").glob("*.edit"))
         for path in edits:
             wrong = try_edit(copy, path)
