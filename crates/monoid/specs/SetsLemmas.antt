@@ -1,6 +1,6 @@
 -- Unions of bits.
-use Rattle.std.specs.Prelude.{◌≡◌, ℕ, zero, suc, ◌+◌, ◌*◌, ◌/◌, ◌%◌, ◌^◌, ◌<◌, ◌≤◌, max, ◌⊎◌, List, [], ◌∷◌, map, length, bit_or, slice_index, refl}
-use Rattle.std.proofs.Common.{sym, ap, subst, ◌∙◌, inl, inr, ⊎_elim, arith}
+use Rattle.std.specs.Prelude.{◌≡◌, ℕ, zero, suc, ◌/◌, ◌%◌, ◌^◌, ◌<◌, max, ◌⊎◌, List, [], ◌∷◌, map, length, bit_or, slice_index, refl}
+use Rattle.std.proofs.Common.{sym, ap, ◌∙◌, inl, inr, ⊎_elim, arith}
 use Rattle.std.proofs.Math.Nat.{zero-div}
 use Rattle.std.proofs.Math.Arith.{bin_ind}
 use Rattle.std.specs.Int.Bits.{or_step, or_zero_l, or_zero_r}
@@ -33,6 +33,9 @@ right x = ap set_of (or_zero_r x.0)
 
 pub assoc : (x y z : Fittings) → union (union x y) z ≡ union x (union y z)
 assoc x y z = ap set_of (or_assoc x.0 y.0 z.0)
+
+pub back : (x : Fittings) → set_of x.0 ≡ x
+back x = refl
 
 -- a bit of a union is that of one side
 or_bit : (i a b : ℕ) → bit_or a b / 2 ^ i % 2 ≡ max (a / 2 ^ i % 2) (b / 2 ^ i % 2)
