@@ -46,7 +46,7 @@ pub(crate) fn take_out<P: Copy>(memory: &mut [Entry<P>], count: usize, place: us
 
 /// The values of the records, joined from left to right.
 pub(crate) fn join_all<M: Monoid>(records: &[Entry<M::Plain>]) -> M
-    ensures { result ≡ total M.Monoid.neutral M.Monoid.joined (values (pairs M.Monoid.reads records.now)) }
+    ensures { result ≡ total M.neutral M.joined (values (pairs M.reads records.now)) }
 {
     let mut sofar = M::unit();
     for record in records {
