@@ -9,7 +9,8 @@ use Rattle.monoid.specs.Folds.{total}
 use Rattle.monoid.specs.Deficits.{numbers, overfull, none, join}
 use Rattle.monoid.specs.Steps.{Step, departs, arrives, rise, level, of_step, SumsUp}
 use Rattle.monoid.specs.Laws.{Joins, StepsSummed, StepsOverfull}
-use Rattle.monoid.specs.DeficitsLemmas.{fields, left, right, assoc, join_rules}
+use Rattle.monoid.specs.DeficitsLemmas.{fields, left, right, assoc}
+use Rattle.monoid.proofs.Deficits.{join_rules}
 use Rattle.monoid.specs.FoldsLemmas.{total_cons}
 
 abbrev sum_of : List Step → DeficitSummary

@@ -1,7 +1,8 @@
 use Rattle.std.proofs.Common.{sym, refl, ◌∙◌, arith}
 use Rattle.std.proofs.lemmas.Int.{ints}
 use Rattle.std.proofs.lemmas.Bool.{both_ways}
-use Rattle.monoid.specs.DeficitsLemmas.{same, fields, read_kept, read_broken}
+use Rattle.monoid.specs.DeficitsLemmas.{same, fields, read_kept}
+use Rattle.monoid.proofs.Deficits.{read_broken}
 use Rattle.monoid.proofs.deficit.DeficitSummaryMonoid.from_plain.Goals as goal
 
 pub returns-then-not-is_consistent : goal.returns-then-not-is_consistent
