@@ -1,5 +1,5 @@
 -- What a book's calls answer and leave, by its capacity and its entries.
-use Rattle.std.specs.Prelude.{ℕ, Bool, cond, ◌||◌, List, length, Some, None, Ok, Err, Option, Result, ◌==◌}
+use Rattle.std.specs.Prelude.{ℕ, cond, ◌||◌, List, length, Some, None, Ok, Err, Option, Result, ◌==◌}
 use Rattle.fault.specs.declared.BookFault.{BookFault}
 use Rattle.fault.specs.declared.BookFault.TheVariants.{KeyHeld, Full, NotHeld}
 use Rattle.book.specs.Entries.{held, value_of, inserted}

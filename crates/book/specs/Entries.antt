@@ -1,5 +1,5 @@
 -- What a book holds: a list of entries, each a key and a value.
-use Rattle.std.specs.Prelude.{ℕ, Bool, true, false, cond, ◌&&◌, ◌||◌, ltb, List, [], ◌∷◌, map, Some, None, count_by, filter, Option, ◌==◌, nat_le, nat_lt}
+use Rattle.std.specs.Prelude.{ℕ, Bool, true, false, cond, ◌&&◌, ◌||◌, List, [], ◌∷◌, map, Some, None, count_by, filter, Option, ◌==◌, nat_le, nat_lt}
 use Rattle.monoid.specs.Folds.{total}
 
 -- in strictly rising key; a test, so that a type's invariant can state it
@@ -33,7 +33,7 @@ removed k (e ∷ es) = cond (e.0 == k) es (e ∷ removed k es)
 
 -- how many keys are less than k
 abbrev pub count_below : {V : Type 0} → ℕ → List (ℕ × V) → ℕ
-count_below k es = count_by (λ e. ltb e.0 k) es
+count_below k es = count_by (λ e. nat_lt e.0 k) es
 
 -- the entries with lo ≤ key < hi
 abbrev pub between : {V : Type 0} → ℕ → ℕ → List (ℕ × V) → List (ℕ × V)

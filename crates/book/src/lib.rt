@@ -65,7 +65,7 @@ pub trait Book {
 
     /// The values of the entries with lo ≤ key < hi, joined from left to right.
     fn fold(&self, lo: u64, hi: u64) -> Self::Value
-        ensures { summed self.now → result ≡ fold_between Self.Value.Monoid.neutral Self.Value.Monoid.joined lo hi (entries self.now) };
+        ensures { summed self.now → result ≡ fold_between Self.Value.neutral Self.Value.joined lo hi (entries self.now) };
 
     /// Takes all entries out.
     fn clear(&mut self)

@@ -1,2 +1,4 @@
+pub mod Deficits
+pub mod Sets
 pub mod Steps
 pub mod Seams

@@ -1,39 +1,15 @@
--- The laws of the join of seams, and the fold of runs.
-use Rattle.std.proofs.Common.{◌≡◌, ℕ, ◌≤◌, Bool, true, false, ◌&&◌, eqb, leb, List, [], ◌∷◌, map, sym, refl, ap, ◌∙◌}
+-- The fold of runs.
+use Rattle.std.proofs.Common.{◌≡◌, Bool, true, ◌&&◌, eqb, leb, List, [], ◌∷◌, map, sym, refl, ap, ◌∙◌}
 use Rattle.std.proofs.lemmas.Bool.{and_parts, and_from, eqb-true, leb-true, eq-eqb, le-leb}
 use Rattle.monoid.specs.declared.seam.Stop.{Stop}
 use Rattle.monoid.specs.declared.seam.Stretch.{Stretch}
 use Rattle.monoid.specs.declared.seam.Seam.{Seam}
 use Rattle.monoid.specs.declared.seam.Seam.TheVariants.{Nothing, Over}
 use Rattle.monoid.specs.Folds.{total}
-use Rattle.monoid.specs.Seams.{stop, meets, seamed, Leg, of_leg, Follows, Chain, Sews}
+use Rattle.monoid.specs.Seams.{stop, seamed, Leg, of_leg, Sews}
 use Rattle.monoid.specs.Laws.{RunsSeamed}
 use Rattle.monoid.specs.FoldsLemmas.{total_cons}
-
-pub right : (x : Seam) → seamed x Nothing ≡ x
-right Nothing = refl
-right (Over a) = refl
-
-and_true : (x : Bool) → (x && true) ≡ x
-and_true true = refl
-and_true false = refl
-
-and_false : (x : Bool) → (x && false) ≡ false
-and_false true = refl
-and_false false = refl
-
--- a and b meet in p, b and c in q
-regrouped : (a b c p q : Bool) → ((a && (b && p)) && (c && q)) ≡ (a && ((b && (c && q)) && p))
-regrouped false b c p q = refl
-regrouped true false c p q = refl
-regrouped true true c true q = sym (and_true (c && q))
-regrouped true true c false q = sym (and_false (c && q))
-
-pub assoc : (x y z : Seam) → seamed (seamed x y) z ≡ seamed x (seamed y z)
-assoc Nothing y z = refl
-assoc (Over a) Nothing z = refl
-assoc (Over a) (Over b) Nothing = refl
-assoc (Over a) (Over b) (Over c) = ap (λ t. Over (record { first = a.first; last = c.last; sound = t })) (regrouped a.sound b.sound c.sound (meets a b) (meets b c))
+use Rattle.monoid.specs.SeamsLemmas.{left, right, assoc}
 
 abbrev seam_of : List Leg → Seam
 seam_of legs = total Nothing seamed (map of_leg legs)
@@ -49,7 +25,7 @@ sewn r (s ∷ rest) =
     let from : x.first.vault ≡ s.from = ap (λ (p : Stop). p.vault) h.first in
     let start : x.first.minute ≡ s.start = ap (λ (p : Stop). p.minute) h.first in (
       record { first = stop r.from r.start; last = x.last; sound = x.sound && (meet && timely) },
-      total_cons Nothing seamed (λ _. refl) right assoc (of_leg r) (map of_leg (s ∷ rest)) ∙ ap (seamed (of_leg r)) more.1,
+      total_cons Nothing seamed left right assoc (of_leg r) (map of_leg (s ∷ rest)) ∙ ap (seamed (of_leg r)) more.1,
       record {
         first = refl;
         last = h.last;

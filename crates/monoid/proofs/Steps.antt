@@ -1,15 +1,16 @@
 -- The fold of the summaries of departures and arrivals.
-use Rattle.std.proofs.Common.{◌≡◌, ℕ, zero, suc, ◌+◌, ◌<◌, ◌≤◌, min, List, [], ◌∷◌, map, length, take, ℤ, pos, negsuc, ◌+ℤ◌, ◌≤ℤ◌, ◌<ℤ◌, sym, refl, ap, ◌∙◌, subst, ⊎_elim, arith}
+use Rattle.std.proofs.Common.{◌≡◌, ℕ, zero, suc, ◌+◌, ◌<◌, ◌≤◌, min, List, [], ◌∷◌, map, length, take, pos, ◌+ℤ◌, ◌≤ℤ◌, ◌<ℤ◌, sym, refl, ap, ◌∙◌, subst, ⊎_elim, arith}
 use borrow.Author.Differences.{ints}
 use Rattle.std.proofs.lemmas.Int.{by_lt_z}
 use Rattle.std.proofs.lemmas.Bool.{cases_lt}
 use Rattle.monoid.specs.declared.summary.DeficitSummary.{DeficitSummary}
 use Rattle.monoid.specs.declared.summary.DeficitPlain.{DeficitPlain}
 use Rattle.monoid.specs.Folds.{total}
-use Rattle.monoid.specs.Deficits.{numbers, four, overfull, none, join}
+use Rattle.monoid.specs.Deficits.{numbers, overfull, none, join}
 use Rattle.monoid.specs.Steps.{Step, departs, arrives, rise, level, of_step, SumsUp}
 use Rattle.monoid.specs.Laws.{Joins, StepsSummed, StepsOverfull}
-use Rattle.monoid.specs.DeficitsLemmas.{fields, left, right, assoc, join_rules}
+use Rattle.monoid.specs.DeficitsLemmas.{fields, left, right, assoc}
+use Rattle.monoid.proofs.Deficits.{join_rules}
 use Rattle.monoid.specs.FoldsLemmas.{total_cons}
 
 abbrev sum_of : List Step → DeficitSummary

@@ -6,4 +6,5 @@ pub mod Seams
 pub mod Laws
 pub mod DeficitsLemmas
 pub mod SetsLemmas
+pub mod SeamsLemmas
 pub mod FoldsLemmas

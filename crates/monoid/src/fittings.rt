@@ -2,7 +2,6 @@
 
 ghost use Rattle.monoid.specs.Sets.{set_of, union};
 ghost use Rattle.monoid.specs.SetsLemmas as Sets;
-ghost use Rattle.std.proofs.Common.{rules};
 
 use crate::Monoid;
 
@@ -21,13 +20,13 @@ impl Monoid for Fittings {
 
     ghost written = { λ x. x.0 };
 
-    ghost left = { Prim.search rules };
+    ghost left = { Sets.left };
 
     ghost right = { Sets.right };
 
     ghost assoc = { Sets.assoc };
 
-    ghost back = { Prim.search rules };
+    ghost back = { Sets.back };
 
     fn unit() -> Fittings {
         Fittings(0)

@@ -55,7 +55,7 @@ pub trait Monoid: Sized + Copy {
 
 /// The values that the records read as, joined from left to right, starting from the unit.
 pub fn fold<M: Monoid>(records: &[M::Plain]) -> M
-    ensures { result ≡ total M.Monoid.neutral M.Monoid.joined (map M.Monoid.reads records.now) }
+    ensures { result ≡ total M.neutral M.joined (map M.reads records.now) }
 {
     let mut sofar = M::unit();
     for plain in records {
@@ -66,7 +66,7 @@ pub fn fold<M: Monoid>(records: &[M::Plain]) -> M
 
 /// The folds of two stretches, joined: the fold of both, one after the other.
 pub fn join_of_folds<M: Monoid>(front: &[M::Plain], back: &[M::Plain]) -> M
-    ensures { result ≡ total M.Monoid.neutral M.Monoid.joined (map M.Monoid.reads (front.now ++ back.now)) }
+    ensures { result ≡ total M.neutral M.joined (map M.reads (front.now ++ back.now)) }
 {
     fold::<M>(front).join(fold::<M>(back))
 }

@@ -3,7 +3,7 @@
 ghost use Rattle.std.specs.Prelude.{◌≡◌};
 ghost use Rattle.monoid.specs.Seams.{seamed, of_run};
 ghost use Rattle.monoid.specs.declared.seam.Seam.TheVariants.{Nothing};
-ghost use Rattle.std.proofs.Common.{rules};
+ghost use Rattle.monoid.specs.SeamsLemmas as Seams;
 
 use crate::Monoid;
 
@@ -61,13 +61,13 @@ impl Monoid for Seam {
 
     ghost written = { λ x. x };
 
-    ghost left = { Prim.search rules };
+    ghost left = { Seams.left };
 
-    ghost right = { Prim.search rules };
+    ghost right = { Seams.right };
 
-    ghost assoc = { Prim.search rules };
+    ghost assoc = { Seams.assoc };
 
-    ghost back = { Prim.search rules };
+    ghost back = { Seams.back };
 
     fn unit() -> Seam {
         Seam::Nothing

@@ -1,6 +1,6 @@
 -- The entries that records mean: edits and questions at places of the records.
 use Rattle.std.proofs.Common.{◌≡◌, ℕ, zero, suc, ◌+◌, ◌-◌, ◌<◌, ◌≤◌, true, false, cond, ltb, List, [], ◌∷◌, ◌++◌, map, length, get_or, take, drop, Some, sym, refl, ap, ◌∙◌, ⊎_elim, arith}
-use Rattle.std.specs.List.{insert as put_in, remove as takenOut, slice_get}
+use Rattle.std.specs.List.{insert as put_in, remove as taken_out, slice_get}
 use Rattle.std.proofs.lemmas.List.{map-append, take-map, drop-map, get_or-map, get_or-take, drop-take, take-take, length-map, length-take-le}
 use Rattle.std.proofs.lemmas.Bool.{cases_lt}
 use Rattle.std.proofs.lemmas.Option.{slice_get_read}
@@ -66,7 +66,7 @@ module _ {P V : Type 0} (reads : P → V) (es : List (Entry P)) (k : ℕ) (risin
       value_at k (pairs reads es) i (pair reads x) (strict (pairs reads es) rising) (omega arith) (ap (λ p. p.0) (read_at i x h read) ∙ q)
       ∙ ap (λ p. Some p.1) (read_at i x h read)
 
-  pub found_removed : (i : ℕ) (x : Entry P) → i < length es → x ≡ get_or es i x → x.key ≡ k → pairs reads (takenOut es i) ≡ removed k (pairs reads es)
+  pub found_removed : (i : ℕ) (x : Entry P) → i < length es → x ≡ get_or es i x → x.key ≡ k → pairs reads (taken_out es i) ≡ removed k (pairs reads es)
   found_removed i x h read q =
       let n = size in
       map-append (pair reads) (take i es) (drop (suc i) es)
@@ -178,8 +178,8 @@ module _ {P V : Type 0} (reads : P → V) (es : List (Entry P)) (count k place :
     entries_put x made there q none =
         ap (λ l. pairs reads (take (count + 1) l)) is ∙ ap (pairs reads) made ∙ ap (λ l. pairs reads (put_in (take count l) place x)) was ∙ put_inserted reads (take count es) k rising place x there q none
 
-    pub entries_taken : (x : Entry P) → take (count - 1) left ≡ takenOut (take count given) place → place < count → x ≡ get_or es place x → x.key ≡ k → pairs reads (take (count - 1) now) ≡ removed k (pairs reads (take count es))
+    pub entries_taken : (x : Entry P) → take (count - 1) left ≡ taken_out (take count given) place → place < count → x ≡ get_or es place x → x.key ≡ k → pairs reads (take (count - 1) now) ≡ removed k (pairs reads (take count es))
     entries_taken x made h read q =
         let n = taken in
-        ap (λ l. pairs reads (take (count - 1) l)) is ∙ ap (pairs reads) made ∙ ap (λ l. pairs reads (takenOut (take count l) place)) was
+        ap (λ l. pairs reads (take (count - 1) l)) is ∙ ap (pairs reads) made ∙ ap (λ l. pairs reads (taken_out (take count l) place)) was
         ∙ found_removed reads (take count es) k rising place x (omega arith) (read_taken es count place x h read) q

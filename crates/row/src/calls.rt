@@ -19,7 +19,7 @@ impl<M: Monoid> Row<M> {
     /// An empty row in the memory handed over, whatever that held. It takes as many entries as the
     /// memory has records, and at most 2,048.
     pub fn new(memory: Vec<Entry<M::Plain>>) -> Row<M>
-        ensures empty { row_entries M.Monoid.reads result ≡ [] }
+        ensures empty { row_entries M.reads result ≡ [] }
         ensures room { row_capacity result ≡ min (vec_len memory) 2048 }
         ensures kept { result.memory ≡ memory }
     {
@@ -42,7 +42,7 @@ impl<M: Monoid> Row<M> {
 
     /// How many keys are less than this one.
     fn place(&self, key: u64) -> usize
-        ensures below { result ≡ count_below key (row_entries M.Monoid.reads self.now) }
+        ensures below { result ≡ count_below key (row_entries M.reads self.now) }
         ensures within { result ≤ self.now.count }
     {
         place_of(&self.memory[0..self.count], key)
@@ -50,7 +50,7 @@ impl<M: Monoid> Row<M> {
 
     /// The place of a key, or else the place where it belongs.
     fn find(&self, key: u64) -> Result<usize, usize>
-        ensures { MatchResult result (Stands self.now key) (Belongs M.Monoid.reads self.now key) }
+        ensures { MatchResult result (Stands self.now key) (Belongs M.reads self.now key) }
     {
         let place = self.place(key);
         if place < self.count && self.memory[place].key == key {
@@ -66,15 +66,15 @@ impl<M: Monoid> Book for Row<M> {
 
     ghost capacity = { λ r. row_capacity r };
 
-    ghost entries = { λ r. row_entries M.Monoid.reads r };
+    ghost entries = { λ r. row_entries M.reads r };
 
     ghost summed = { λ _. Unit {0} };
 
-    ghost bounded = { λ r. is_bounded M.Monoid.reads r };
+    ghost bounded = { λ r. is_bounded M.reads r };
 
-    ghost small = { λ r. is_small M.Monoid.reads r };
+    ghost small = { λ r. is_small M.reads r };
 
-    ghost rising = { λ r. is_rising M.Monoid.reads r };
+    ghost rising = { λ r. is_rising M.reads r };
 
     fn insert(&mut self, key: u64, value: M) -> Result<(), BookFault> {
         let Err(place) = self.find(key) else {

@@ -1,7 +1,7 @@
 //! Records in rising key: finding a place, moving the records behind it, and joining their values.
 
 ghost use Rattle.std.specs.Prelude.{◌≡◌, ◌+◌, ◌-◌, ◌<◌, ◌≤◌, true, map, length, take};
-ghost use Rattle.std.specs.List.{insert as put_in, remove as takenOut};
+ghost use Rattle.std.specs.List.{insert as put_in, remove as taken_out};
 ghost use Rattle.monoid.specs.Folds.{total};
 ghost use Rattle.book.specs.Entries.{ascending, count_below, values};
 ghost use Rattle.row.specs.Slots.{pairs, stored};
@@ -39,14 +39,14 @@ pub(crate) fn put_in<P: Copy>(memory: &mut [Entry<P>], count: usize, place: usiz
 /// Takes the record at a place out of the first `count`: those behind it move down by one.
 pub(crate) fn take_out<P: Copy>(memory: &mut [Entry<P>], count: usize, place: usize)
     requires { (place < count) × (count ≤ length memory.old) }
-    ensures { take (count - 1) memory.new ≡ takenOut (take count memory.old) place }
+    ensures { take (count - 1) memory.new ≡ taken_out (take count memory.old) place }
 {
     memory.copy_within(place + 1..count, place);
 }
 
 /// The values of the records, joined from left to right.
 pub(crate) fn join_all<M: Monoid>(records: &[Entry<M::Plain>]) -> M
-    ensures { result ≡ total M.Monoid.neutral M.Monoid.joined (values (pairs M.Monoid.reads records.now)) }
+    ensures { result ≡ total M.neutral M.joined (values (pairs M.reads records.now)) }
 {
     let mut sofar = M::unit();
     for record in records {

@@ -1,4 +1,4 @@
-use Rattle.monoid.specs.SetsLemmas.{bits_united}
+use Rattle.monoid.proofs.Sets.{bits_united}
 use Rattle.monoid.proofs.bits_united.Goals as goal
 
 pub returns : goal.returns

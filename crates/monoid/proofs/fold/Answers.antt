@@ -6,7 +6,7 @@ use Rattle.monoid.proofs.fold.Goals as goal
 pub loop-plain-preserved : goal.loop-plain-preserved
 loop-plain-preserved g c =
     let m = g.M.Monoid in
-    let joined = rw (c.loop-plain.invariant.1, c.from-plain.ensures) at c.join-sofar.ensures in
+    let joined = rw (c.loop-plain.invariant.1, c.from_plain.ensures) at c.join-sofar.ensures in
     (omega arith, joined ∙ total_more m.neutral m.joined m.reads c.args.records.now c.loop-plain.plain-index _ c.loop-plain-test.true (search rules))
 
 pub returns : goal.returns

@@ -1,4 +1,4 @@
-use Rattle.monoid.specs.DeficitsLemmas.{join_rules}
+use Rattle.monoid.proofs.Deficits.{join_rules}
 use Rattle.monoid.proofs.join_rules.Goals as goal
 
 pub returns : goal.returns

@@ -1,4 +1,4 @@
-use Rattle.monoid.specs.DeficitsLemmas.{records_read}
+use Rattle.monoid.proofs.Deficits.{records_read}
 use Rattle.monoid.proofs.records_read.Goals as goal
 
 pub returns : goal.returns

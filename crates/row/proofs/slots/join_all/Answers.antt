@@ -8,7 +8,7 @@ use Rattle.row.proofs.slots.join_all.Goals as goal
 pub loop-record-preserved : goal.loop-record-preserved
 loop-record-preserved g c =
     let m = g.M.Monoid in
-    let joined = rw (c.loop-record.invariant.1, c.from-plain.ensures) at c.join-sofar.ensures in
+    let joined = rw (c.loop-record.invariant.1, c.from_plain.ensures) at c.join-sofar.ensures in
     (omega arith, joined ∙ joined_more m.neutral m.joined m.reads c.args.records.now c.loop-record.record-index c.record-item.result c.loop-record-test.true c.record-item.is)
 
 pub returns : goal.returns

@@ -16,4 +16,4 @@ returns g c =
     let x = c.index-entry.result.now in
     let within = row.within in
     let long = row.memory.ok.0 in
-    ap (λ v. Some (x.key, v)) c.from-plain.ensures ∙ sym (read_nth g.M.Monoid.reads (vec_items row.memory) row.count c.args.n x c.if-n-self.false (omega arith) c.index-entry.ensures)
+    ap (λ v. Some (x.key, v)) c.from_plain.ensures ∙ sym (read_nth g.M.Monoid.reads (vec_items row.memory) row.count c.args.n x c.if-n-self.false (omega arith) c.index-entry.ensures)

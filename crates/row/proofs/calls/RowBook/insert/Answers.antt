@@ -10,14 +10,14 @@ use Rattle.row.specs.Invariant.{count_is, is_rising, same_order}
 use Rattle.row.proofs.Pairs.{stands_held, entries_put}
 use Rattle.row.proofs.calls.RowBook.insert.Goals as goal
 
-pub returns-in-default : goal.returns-in-default
-returns-in-default g c =
+pub returns-in_default : goal.returns-in_default
+returns-in_default g c =
     let m = g.M.Monoid in
     let row = c.args.self.now in
-    let at = c.in-default.ensures in
+    let at = c.in_default.ensures in
     let items = vec_items row.memory in
     let long : row.count ≤ length items = omega (arith, row.within, row.memory.ok.0) in
-    let held_it = stands_held m.reads items row.count c.args.key c.in-default.field-0 long (is_rising m.reads row) at.within at.here in
+    let held_it = stands_held m.reads items row.count c.args.key c.in_default.field-0 long (is_rising m.reads row) at.within at.here in
     let r = insert_held c.args.key c.args.value (row_entries m.reads row) (row_capacity row) held_it in
     record { answer = r.0; after = r.1; kept = refl; sums = λ s. s }
 
@@ -29,21 +29,21 @@ returns-then-count-room g c =
     let r = insert_full c.args.key c.args.value (row_entries m.reads row) (row_capacity row) c.in-Err.ensures.absent full in
     record { answer = r.0; after = r.1; kept = refl; sums = λ s. s }
 
-pub invariant-of-self : goal.invariant-of-self
-invariant-of-self g c =
+pub invariant_of-self : goal.invariant_of-self
+invariant_of-self g c =
     let m = g.M.Monoid in
     let row = c.args.self.now in
     let k = c.args.key in
     let at = c.in-Err.ensures in
     let items = vec_items row.memory in
     let es = row_entries m.reads row in
-    let last = c.put-in.new.memory in
+    let last = c.put_in.new.memory in
     let long : row.count ≤ length items = omega (arith, row.within, row.memory.ok.0) in
-    let size : length last ≡ row.memory.len = omega (arith, c.put-in.auto.memory, c.deref-mut.ensures.len) in
-    let put = entries_put m.reads items row.count k c.in-Err.place long (is_rising m.reads row) c.deref-mut.result.now last (with_items row.memory last).items c.deref-mut.ensures.value (with_items_is row.memory last size) record { key = k; value = c.plain.result } c.put-in.ensures at.there refl at.absent in
+    let size : length last ≡ row.memory.len = omega (arith, c.put_in.auto.memory, c.deref_mut.ensures.len) in
+    let put = entries_put m.reads items row.count k c.in-Err.place long (is_rising m.reads row) c.deref_mut.result.now last (with_items row.memory last).items c.deref_mut.ensures.value (with_items_is row.memory last size) record { key = k; value = c.plain.result } c.put_in.ensures at.there refl at.absent in
     let room : row.count < row_capacity row = omega (arith, row.within, row.small, c.room.ensures, c.if-count-room.false) in
     let up : ascending (pairs m.reads (take (row.count + 1) (with_items row.memory last).items)) ≡ true = ap ascending put ∙ inserted_ascends k (m.reads c.plain.result) es (is_rising m.reads row) at.absent in
-    (omega arith, (omega arith, (same_order stored m.reads (take (row.count + 1) (with_items row.memory last).items) ∙ up, tt)))
+    record { within = omega arith; small = omega arith; rising = same_order stored m.reads (take (row.count + 1) (with_items row.memory last).items) ∙ up }
 
 pub returns : goal.returns
 returns g c =
@@ -53,10 +53,10 @@ returns g c =
     let at = c.in-Err.ensures in
     let items = vec_items row.memory in
     let es = row_entries m.reads row in
-    let last = c.put-in.new.memory in
+    let last = c.put_in.new.memory in
     let long : row.count ≤ length items = omega (arith, row.within, row.memory.ok.0) in
-    let size : length last ≡ row.memory.len = omega (arith, c.put-in.auto.memory, c.deref-mut.ensures.len) in
-    let put = entries_put m.reads items row.count k c.in-Err.place long (is_rising m.reads row) c.deref-mut.result.now last (with_items row.memory last).items c.deref-mut.ensures.value (with_items_is row.memory last size) record { key = k; value = c.plain.result } c.put-in.ensures at.there refl at.absent in
+    let size : length last ≡ row.memory.len = omega (arith, c.put_in.auto.memory, c.deref_mut.ensures.len) in
+    let put = entries_put m.reads items row.count k c.in-Err.place long (is_rising m.reads row) c.deref_mut.result.now last (with_items row.memory last).items c.deref_mut.ensures.value (with_items_is row.memory last size) record { key = k; value = c.plain.result } c.put_in.ensures at.there refl at.absent in
     let value : m.reads c.plain.result ≡ c.args.value = ap m.reads c.plain.ensures ∙ g.met.M.Monoid.back c.args.value in
     let n = count_is m.reads row in
     let room : length es ≡ row_capacity row → ⊥ = λ full. c.if-count-room.false (sym n ∙ full ∙ sym c.room.ensures) in

@@ -10,13 +10,13 @@ use Rattle.row.specs.Invariant.{is_rising, same_order}
 use Rattle.row.proofs.Pairs.{value_there, entries_taken}
 use Rattle.row.proofs.calls.RowBook.remove.Goals as goal
 
-pub returns-in-default : goal.returns-in-default
-returns-in-default g c =
-    let r = remove_unheld c.args.key (row_entries g.M.Monoid.reads c.args.self.now) c.in-default.ensures.absent in
+pub returns-in_default : goal.returns-in_default
+returns-in_default g c =
+    let r = remove_unheld c.args.key (row_entries g.M.Monoid.reads c.args.self.now) c.in_default.ensures.absent in
     record { answer = r.0; after = r.1; kept = refl; sums = λ s. s }
 
-pub invariant-of-self : goal.invariant-of-self
-invariant-of-self g c =
+pub invariant_of-self : goal.invariant_of-self
+invariant_of-self g c =
     let m = g.M.Monoid in
     let row = c.args.self.now in
     let k = c.args.key in
@@ -24,14 +24,14 @@ invariant-of-self g c =
     let place = c.in-Ok.place in
     let items = vec_items row.memory in
     let es = row_entries m.reads row in
-    let last = c.take-out.new.memory in
+    let last = c.take_out.new.memory in
     let x = c.index.result.now in
     let key : x.key ≡ k = ap (λ e. e.key) c.index.ensures ∙ at.here x in
     let long : row.count ≤ length items = omega (arith, row.within, row.memory.ok.0) in
-    let size : length last ≡ row.memory.len = omega (arith, c.take-out.auto.memory, c.deref-mut.ensures.len) in
-    let gone = entries_taken m.reads items row.count k place long (is_rising m.reads row) c.deref-mut.result.now last (with_items row.memory last).items c.deref-mut.ensures.value (with_items_is row.memory last size) x c.take-out.ensures at.within c.index.ensures key in
+    let size : length last ≡ row.memory.len = omega (arith, c.take_out.auto.memory, c.deref_mut.ensures.len) in
+    let gone = entries_taken m.reads items row.count k place long (is_rising m.reads row) c.deref_mut.result.now last (with_items row.memory last).items c.deref_mut.ensures.value (with_items_is row.memory last size) x c.take_out.ensures at.within c.index.ensures key in
     let up : ascending (pairs m.reads (take (row.count - 1) (with_items row.memory last).items)) ≡ true = ap ascending gone ∙ removed_ascends k es (is_rising m.reads row) in
-    (omega (arith, row.within), (omega (arith, row.small), (same_order stored m.reads (take (row.count - 1) (with_items row.memory last).items) ∙ up, tt)))
+    record { within = omega (arith, row.within); small = omega (arith, row.small); rising = same_order stored m.reads (take (row.count - 1) (with_items row.memory last).items) ∙ up }
 
 pub returns : goal.returns
 returns g c =
@@ -42,11 +42,11 @@ returns g c =
     let place = c.in-Ok.place in
     let items = vec_items row.memory in
     let es = row_entries m.reads row in
-    let last = c.take-out.new.memory in
+    let last = c.take_out.new.memory in
     let x = c.index.result.now in
     let key : x.key ≡ k = ap (λ e. e.key) c.index.ensures ∙ at.here x in
     let long : row.count ≤ length items = omega (arith, row.within, row.memory.ok.0) in
-    let size : length last ≡ row.memory.len = omega (arith, c.take-out.auto.memory, c.deref-mut.ensures.len) in
-    let gone = entries_taken m.reads items row.count k place long (is_rising m.reads row) c.deref-mut.result.now last (with_items row.memory last).items c.deref-mut.ensures.value (with_items_is row.memory last size) x c.take-out.ensures at.within c.index.ensures key in
+    let size : length last ≡ row.memory.len = omega (arith, c.take_out.auto.memory, c.deref_mut.ensures.len) in
+    let gone = entries_taken m.reads items row.count k place long (is_rising m.reads row) c.deref_mut.result.now last (with_items row.memory last).items c.deref_mut.ensures.value (with_items_is row.memory last size) x c.take_out.ensures at.within c.index.ensures key in
     let found = value_there m.reads items row.count k place long (is_rising m.reads row) x at.within c.index.ensures key in
-    record { answer = ap Ok c.from-plain-value.ensures ∙ remove_done k (m.reads x.value) es found; after = gone; kept = refl; sums = λ s. s }
+    record { answer = ap Ok c.from_plain-value.ensures ∙ remove_done k (m.reads x.value) es found; after = gone; kept = refl; sums = λ s. s }

@@ -10,5 +10,5 @@ returns g c =
     let row = c.args.self.now in
     let reads = g.M.Monoid.reads in
     let k = c.args.key in
-    let found = c.place-of.ensures ∙ below_part reads k row.count c.deref.result.now (vec_items row.memory) c.deref.ensures.value in
+    let found = c.place_of.ensures ∙ below_part reads k row.count c.deref.result.now (vec_items row.memory) c.deref.ensures.value in
     record { below = found; within = omega (arith, found, below_le k (row_entries reads row), count_is reads row) }
