@@ -1,6 +1,6 @@
 -- A timetable as books keep it. T is a timetable, es are a book's entries.
 use Rattle.std.specs.Prelude.{◌≡◌, ℕ, ◌^◌, ◌<◌, true, List, [], ◌∷◌, map}
-use Rattle.std.specs.List.{ContainsAt as Has, flat_map, AllByRecursion as All}
+use Rattle.std.specs.List.{ContainsAt as Has, flat_map, AllByRecursion}
 use Rattle.monoid.specs.declared.summary.DeficitSummary.{DeficitSummary}
 use Rattle.monoid.specs.declared.fittings.Fittings.{Fittings}
 use Rattle.monoid.specs.Steps.{departs, arrives, of_step}
@@ -60,4 +60,4 @@ pub record KeyFits (r : Run) : Type 0 where
 -- run numbers are distinct, and keys take the runs: so no two runs have one key
 pub record Keyed (T : List Run) : Type 0 where
   pub apart : Apart T
-  pub fit : All KeyFits T
+  pub fit : AllByRecursion KeyFits T

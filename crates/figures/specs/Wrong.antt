@@ -1,6 +1,6 @@
 -- Wrong wordings of what the folds tell. Each is refuted by a small timetable.
 use Rattle.std.specs.Prelude.{◌≡◌, ℕ, ◌+◌, ◌*◌, ◌≤◌, true, false, cond, List, [], ◌∷◌, length, None, Option, ◌==◌}
-use Rattle.std.specs.List.{ContainsAt as Has, flat_map, AllByRecursion as All}
+use Rattle.std.specs.List.{ContainsAt as Has, flat_map, AllByRecursion}
 use Rattle.monoid.specs.declared.summary.DeficitSummary.{DeficitSummary}
 use Rattle.monoid.specs.declared.fittings.Fittings.{Fittings}
 use Rattle.monoid.specs.Steps.{departs, arrives, of_step}
@@ -32,7 +32,7 @@ ReadLate = (T : List Run) (es : List (ℕ × DeficitSummary)) → Keyed T → 2 
 
 -- wrong: two runs may have one run number
 abbrev pub ReadWithoutNumbers : Type 0
-ReadWithoutNumbers = (T : List Run) (es : List (ℕ × DeficitSummary)) → All KeyFits T → 2 * length T ≤ 65535 → ListsEvents T es → (v : ℕ) → NeedAnswer T v (need_read es v)
+ReadWithoutNumbers = (T : List Run) (es : List (ℕ × DeficitSummary)) → AllByRecursion KeyFits T → 2 * length T ≤ 65535 → ListsEvents T es → (v : ℕ) → NeedAnswer T v (need_read es v)
 
 -- wrong: a level can be read at a minute that no key takes
 abbrev pub ReadAtAnyMinute : Type 0

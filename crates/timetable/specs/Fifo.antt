@@ -1,6 +1,6 @@
 -- First in, first out: links and blocks.
 use Rattle.std.specs.Prelude.{◌≡◌, ℕ, ◌+◌, ◌-◌, ◌<◌, ◌≤◌, Bool, true, ◌&&◌, ◌||◌, List, [], ◌∷◌, map, Some, None, count_by, Option, ◌==◌, nat_eq, nat_lt}
-use Rattle.std.specs.List.{ContainsAt as Has, AllByRecursion as All}
+use Rattle.std.specs.List.{ContainsAt as Has, AllByRecursion}
 use Rattle.run.specs.declared.Run.{Run}
 use Rattle.run.specs.Minutes.{arrival_minute}
 use Rattle.timetable.specs.Ways.{SameRuns, runs_of}
@@ -81,7 +81,7 @@ chains_of B = map (λ b. b.runs) B
 
 -- B are the first in, first out blocks of T: they divide T, and each run takes the box that is its turn
 pub record Fifo (T : List Run) (need : ℕ → ℕ) (B : List Block) : Type 0 where
-  pub boxed : All (Boxed T need) B
+  pub boxed : AllByRecursion (Boxed T need) B
   pub same : SameRuns (runs_of (chains_of B)) T
 
 -- the order of the sheet: by vault and then box number
@@ -91,4 +91,4 @@ printed_before b c = nat_lt b.vault c.vault || (b.vault == c.vault && nat_lt b.n
 -- the blocks are in the sheet's order, each strictly before those that stand after it
 abbrev pub SheetOrder : List Block → Type 0
 SheetOrder [] = Unit {0}
-SheetOrder (b ∷ B) = All (λ c. printed_before b c ≡ true) B × SheetOrder B
+SheetOrder (b ∷ B) = AllByRecursion (λ c. printed_before b c ≡ true) B × SheetOrder B

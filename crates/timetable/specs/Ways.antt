@@ -1,6 +1,6 @@
 -- Ways of giving runs to boxes.
 use Rattle.std.specs.Prelude.{◌≡◌, ℕ, ◌<◌, ◌≤◌, Bool, false, List, [], ◌∷◌, count_by, ◌==◌, nat_eq}
-use Rattle.std.specs.List.{flat_map, AllByRecursion as All}
+use Rattle.std.specs.List.{flat_map, AllByRecursion}
 use Rattle.run.specs.declared.Run.{Run}
 use Rattle.run.specs.Minutes.{arrival_minute}
 
@@ -25,7 +25,7 @@ runs_of W = flat_map (λ c. c) W
 
 -- W is a way of giving the runs of T to boxes: it divides T into chains
 pub record Way (T : List Run) (W : List (List Run)) : Type 0 where
-  pub chains : All Chain W
+  pub chains : AllByRecursion Chain W
   pub same : SameRuns (runs_of W) T
 
 -- does v send the chain out: is v the from-vault of its first run
@@ -43,8 +43,8 @@ Apart T = (k : ℕ) → count_by (λ r. nat_eq r.number k) T ≤ 1
 
 -- every run of T takes time
 abbrev pub Forward : List Run → Type 0
-Forward T = All (λ r. r.start < arrival_minute r) T
+Forward T = AllByRecursion (λ r. r.start < arrival_minute r) T
 
 -- every run of T goes between vaults below k
 abbrev pub Within : ℕ → List Run → Type 0
-Within k T = All (λ r. (r.from < k) × (r.to < k)) T
+Within k T = AllByRecursion (λ r. (r.from < k) × (r.to < k)) T

@@ -1,6 +1,6 @@
 -- Wrong wordings of the theorems. Each is refuted by a small timetable.
 use Rattle.std.specs.Prelude.{◌≡◌, ℕ, ◌+◌, ◌-◌, ◌<◌, ◌≤◌, ◌&&◌, List, [], ◌∷◌, length, ℤ, pos, ◌-ℤ◌, ◌≤ℤ◌, count_by, ◌==◌, nat_le, nat_lt}
-use Rattle.std.specs.List.{ContainsAt as Has, AllByRecursion as All}
+use Rattle.std.specs.List.{ContainsAt as Has, AllByRecursion}
 use Rattle.run.specs.declared.Run.{Run}
 use Rattle.run.specs.Minutes.{arrival_minute}
 use Rattle.timetable.specs.Levels.{departures, level, Need, Needs, total}
@@ -18,7 +18,7 @@ StrictChain (r ∷ []) = Unit {0}
 StrictChain (r ∷ s ∷ rs) = (r.to ≡ s.from) × (arrival_minute r < s.start) × StrictChain (s ∷ rs)
 
 abbrev pub BlocksAreStrictChains : Type 0
-BlocksAreStrictChains = (T : List Run) (need : ℕ → ℕ) (B : List Block) → Needs T need → Apart T → Forward T → Fifo T need B → All StrictChain (chains_of B)
+BlocksAreStrictChains = (T : List Run) (need : ℕ → ℕ) (B : List Block) → Needs T need → Apart T → Forward T → Fifo T need B → AllByRecursion StrictChain (chains_of B)
 
 -- wrong: departure i takes box i if i < need; otherwise the box that arrival i - need brought
 abbrev pub BeforeBelow : List Run → (ℕ → ℕ) → Run → Origin → Type 0
