@@ -7,6 +7,6 @@
 mod reader;
 mod whole;
 
-pub use page_records::Record;
+pub use page_records::{Cursor, Record};
 pub use reader::{AtEdits, AtEnd, AtNames, AtRuns, Refused};
 pub use whole::{check, name_of};

@@ -1,6 +1,6 @@
 -- One record: what is written is read back, and what is read is what was written.
 use Rattle.std.proofs.Common.{◌≡◌, ℕ, suc, ◌+◌, ◌≤◌, Bool, true, false, cond, ◌&&◌, eqb, ltb, leb, ◌⊎◌, List, [], ◌∷◌, ◌++◌, length, take, Some, None, Decides, Option, refl, ap, ◌∙◌, inl, inr, one-add, arith, length-append}
-use Rattle.std.specs.List.{AllByRecursion as All}
+use Rattle.std.specs.List.{AllByRecursion}
 use Rattle.std.proofs.lemmas.List.{take_at, length-take-le}
 use Rattle.std.proofs.lemmas.Bool.{leb-true, le-leb, le-ltb, ltb-false, eqb-false, ne_eqb, or_parts}
 use Rattle.std.proofs.lemmas.Bool.Decides.{Decides-and, nat_tests}
@@ -29,7 +29,7 @@ cond_last false f h = let z : ◌≡◌ {A = ℕ} 0 1 = cc in absurd (omega arit
 letter : (b : ℕ) → Decides (leb 33 b && leb b 126) (Letter b)
 letter b = Decides-and (leb 33 b) (leb b 126) (leb-true 33 b, le-leb 33 b) (leb-true b 126, le-leb b 126)
 
-letters : (s : List ℕ) → Decides (lettered s) (All Letter s)
+letters : (s : List ℕ) → Decides (lettered s) (AllByRecursion Letter s)
 letters s = Decides-by_and (λ b. leb 33 b && leb b 126) Letter lettered letter refl (λ _ _. refl) s
 
 -- the tests of a name without fault, and what they say
@@ -41,7 +41,7 @@ name_tests b t h =
     let r = cond_none _ _ _ q.1 in
     (o.0, o.1, r.0, cond_last _ _ r.1)
 
-name_none : (b : ℕ) (t : List ℕ) → name_fault (b ∷ t) ≡ None → (1 ≤ b) × (b ≤ 24) × (b ≤ length t) × All Letter (take b t)
+name_none : (b : ℕ) (t : List ℕ) → name_fault (b ∷ t) ≡ None → (1 ≤ b) × (b ≤ 24) × (b ≤ length t) × AllByRecursion Letter (take b t)
 name_none b t h =
     let p = name_tests b t h in
     let u = ltb-false 24 b p.1 in

@@ -1,7 +1,7 @@
 -- A section: its count, and its records.
 use Rattle.std.proofs.Common.{◌≡◌, ℕ, ◌+◌, ◌-◌, ◌<◌, ◌≤◌, List, ◌++◌, length, take, drop, None, Ok, Err, sym, refl, ap, ◌∙◌, inl, inr, append_assoc, arith, length-append, length-drop, take-add}
 use native.Mathlib.Nat.{sub-zero}
-use Rattle.std.specs.List.{flat_map, AllByRecursion as All}
+use Rattle.std.specs.List.{flat_map, AllByRecursion}
 use Rattle.std.proofs.lemmas.List.{drop_at, drop-drop}
 use Rattle.std.proofs.ByRecursion.{All-drop}
 use Rattle.std.proofs.lemmas.Bool.{le-ltb, ltb-false}
@@ -48,7 +48,7 @@ width_some Runs = omega arith
 width_some Edits = omega arith
 
 -- a section that is written anywhere in a page is read back
-pub section_written : (x : Section) (is : List (Item x)) (p pre rest : List ℕ) (start : ℕ) → p ≡ pre ++ (section_bytes x is ++ rest) → length pre ≡ start → length is ≤ limit x → All (Lawful x) is → (section_end x p start ≡ Ok (start + length (section_bytes x is))) × (section_items x p start ≡ is)
+pub section_written : (x : Section) (is : List (Item x)) (p pre rest : List ℕ) (start : ℕ) → p ≡ pre ++ (section_bytes x is ++ rest) → length pre ≡ start → length is ≤ limit x → AllByRecursion (Lawful x) is → (section_end x p start ≡ Ok (start + length (section_bytes x is))) × (section_items x p start ≡ is)
 section_written x is p pre rest start e l m h =
     let n = length is in
     let c = count_bytes x n in
@@ -98,7 +98,7 @@ section_fault x p start f s h =
     ]
 
 -- a section that is read is lawful, and has the bytes that were read
-pub section_read_lem : (x : Section) (p : List ℕ) (start e : ℕ) → Bytes p → section_end x p start ≡ Ok e → (length (section_items x p start) ≤ limit x) × All (Lawful x) (section_items x p start) × (section_bytes x (section_items x p start) ≡ take (e - start) (drop start p))
+pub section_read_lem : (x : Section) (p : List ℕ) (start e : ℕ) → Bytes p → section_end x p start ≡ Ok e → (length (section_items x p start) ≤ limit x) × AllByRecursion (Lawful x) (section_items x p start) × (section_bytes x (section_items x p start) ≡ take (e - start) (drop start p))
 section_read_lem x p start e h t =
     let s = drop start p in
     let k = start + width x in

@@ -1,6 +1,6 @@
 -- The records of a section, one after another.
 use Rattle.std.proofs.Common.{◌≡◌, ℕ, zero, suc, ◌+◌, ◌-◌, ◌<◌, ◌≤◌, List, [], ◌∷◌, ◌++◌, length, take, drop, None, Ok, Err, sym, refl, ap, inl, inr, append_assoc, add-zero, arith, length-append, length-drop, take-add}
-use Rattle.std.specs.List.{flat_map, AllByRecursion as All}
+use Rattle.std.specs.List.{flat_map, AllByRecursion}
 use Rattle.std.proofs.lemmas.List.{drop_at}
 use Rattle.std.proofs.ByRecursion.{All-drop}
 use Rattle.fault.specs.declared.Section.{Section}
@@ -12,7 +12,7 @@ use Rattle.page_format.proofs.Records.{fault_none_size, record_written, record_r
 use Rattle.page_format.proofs.Steps.{unless_ok, unless_err}
 
 -- lawful records that are written one after another are read back, whatever follows them
-pub walk_written : (x : Section) (is : List (Item x)) (rest : List ℕ) (k at : ℕ) → All (Lawful x) is → (walk x (length is) k at (flat_map (item_bytes x) is ++ rest) ≡ Ok (at + length (flat_map (item_bytes x) is))) × (items x (length is) (flat_map (item_bytes x) is ++ rest) ≡ is)
+pub walk_written : (x : Section) (is : List (Item x)) (rest : List ℕ) (k at : ℕ) → AllByRecursion (Lawful x) is → (walk x (length is) k at (flat_map (item_bytes x) is ++ rest) ≡ Ok (at + length (flat_map (item_bytes x) is))) × (items x (length is) (flat_map (item_bytes x) is ++ rest) ≡ is)
 walk_written x [] rest k at h = (ap (λ n. Ok n) (sym (add-zero at)), refl)
 walk_written x (i ∷ is) rest k at h =
     let b = item_bytes x i in
@@ -55,7 +55,7 @@ walk_fault x (suc n) k at s f h =
     ]
 
 -- records that are read are lawful, and are those that have the bytes that were read
-pub walk_read : (x : Section) (n k at : ℕ) (s : List ℕ) (e : ℕ) → Bytes s → walk x n k at s ≡ Ok e → All (Lawful x) (items x n s) × (length (items x n s) ≡ n) × (flat_map (item_bytes x) (items x n s) ≡ take (e - at) s)
+pub walk_read : (x : Section) (n k at : ℕ) (s : List ℕ) (e : ℕ) → Bytes s → walk x n k at s ≡ Ok e → AllByRecursion (Lawful x) (items x n s) × (length (items x n s) ≡ n) × (flat_map (item_bytes x) (items x n s) ≡ take (e - at) s)
 walk_read x zero k at s e h w = let p : at ≡ e = cc in let z : e - at ≡ 0 = omega arith in (tt, refl, rw z)
 walk_read x (suc n) k at s e h w =
     let m = record_size x s in

@@ -3,7 +3,7 @@
 -- A page has three sections: names, runs and edits. Each begins with its count, and its records follow.
 -- Numbers have the high byte first.
 use Rattle.std.specs.Prelude.{ℕ, ◌/◌, ◌%◌, ◌<◌, ◌≤◌, List, [], ◌∷◌, ◌++◌, length}
-use Rattle.std.specs.List.{flat_map, AllByRecursion as All}
+use Rattle.std.specs.List.{flat_map, AllByRecursion}
 use Rattle.fault.specs.declared.Section.{Section}
 use Rattle.fault.specs.declared.Section.TheVariants.{Names, Runs, Edits}
 use Rattle.page_format.specs.declared.Add.{Add}
@@ -71,7 +71,7 @@ EditFits (edit.Retime t) = RetimeFits t
 
 -- what a record may say: a name has 1 to 24 letters, and numbers fit their bytes
 abbrev pub Lawful : (x : Section) → Item x → Type 0
-Lawful Names name = (1 ≤ length name) × (length name ≤ 24) × All Letter name
+Lawful Names name = (1 ≤ length name) × (length name ≤ 24) × AllByRecursion Letter name
 Lawful Runs a = AddFits a
 Lawful Edits e = EditFits e
 
@@ -101,9 +101,9 @@ pub record Content : Type 0 where
   pub edits : List Edit
 
 pub record LawfulPage (c : Content) : Type 0 where
-  pub names : (length c.names ≤ 64) × All (Lawful Names) c.names
-  pub runs : (length c.runs ≤ 1024) × All (Lawful Runs) c.runs
-  pub edits : (length c.edits ≤ 2048) × All (Lawful Edits) c.edits
+  pub names : (length c.names ≤ 64) × AllByRecursion (Lawful Names) c.names
+  pub runs : (length c.runs ≤ 1024) × AllByRecursion (Lawful Runs) c.runs
+  pub edits : (length c.edits ≤ 2048) × AllByRecursion (Lawful Edits) c.edits
 
 -- the bytes of a page
 abbrev pub page_bytes : Content → List ℕ

@@ -1,12 +1,12 @@
 -- What the reading has to do with the grammar.
 use Rattle.std.specs.Prelude.{◌≡◌, ℕ, ◌<◌, ◌≤◌, List, length, Ok, Err}
-use Rattle.std.specs.List.{AllByRecursion as All}
+use Rattle.std.specs.List.{AllByRecursion}
 use Rattle.fault.specs.declared.Located.{Located}
 use Rattle.page_format.specs.Grammar.{Content, LawfulPage, page_bytes}
 use Rattle.page_format.specs.Reading.{reading}
 
 abbrev pub Bytes : List ℕ → Type 0
-Bytes p = All (λ b. b < 256) p
+Bytes p = AllByRecursion (λ b. b < 256) p
 
 -- encode then read gives the page back
 abbrev pub ReadsBack : Type 0

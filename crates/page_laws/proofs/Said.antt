@@ -1,7 +1,6 @@
 -- A record that a reader hands out says what the grammar reads at its place.
 use Rattle.std.proofs.Common.{◌≡◌, ℕ, ◌≤◌, List, length, get_or, take, drop, Some, None, ap, arith, length-drop}
 use Rattle.fault.specs.declared.Section.TheVariants.{Names, Runs, Edits}
-use Rattle.page_format.specs.declared.Edit.TheVariants as edit
 use Rattle.page_format.specs.Reading.{add_of, record_fault, record_item, kind_size}
 use Rattle.page_format.proofs.Digits.{firsts_take}
 use Rattle.page_format.proofs.Records.{fault_none_size}

@@ -7,6 +7,7 @@ use fault::Located;
 use page::{AtEdits, AtNames, AtRuns, Record, Refused, check};
 use page_format::Counts;
 use std::io::Read;
+use std::process::ExitCode;
 use std::{env, fs, io};
 
 /// Why a page is not listed.
@@ -120,16 +121,17 @@ fn run(rt: &HostRuntime) -> Result<(), Trouble> {
     list(rt, &page, counts)
 }
 
-fn main(rt: HostRuntime) -> Result<(), Trouble> {
+fn main(rt: HostRuntime) -> Result<ExitCode, Trouble> {
     match run(&rt) {
+        Ok(()) => Ok(ExitCode::SUCCESS),
         Err(Trouble::Page(fault)) => {
             println!(rt; "{fault}")?;
-            Err(Trouble::Page(fault))
+            Ok(ExitCode::FAILURE)
         }
         Err(Trouble::Io(e)) => {
             eprintln!(rt; "pages: {e}")?;
-            Err(Trouble::Io(e))
+            Ok(ExitCode::FAILURE)
         }
-        done => done,
+        Err(Trouble::Unlisted) => Err(Trouble::Unlisted),
     }
 }

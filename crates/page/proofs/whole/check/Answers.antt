@@ -7,5 +7,5 @@ use Rattle.page.proofs.whole.check.Goals as goal
 pub returns : goal.returns
 returns c =
     let p = c.args.page.now in
-    let b : Bytes p = All-from_get_or (λ n. n < 256) p 0 (λ i l. (let f = c.type-inv.page i in omega arith)) in
+    let b : Bytes p = All-from_get_or (λ n. n < 256) p 0 (λ i l. (let f = c.type_inv.page i in omega arith)) in
     record { value = c.tally.ensures; exact = rw c.tally.ensures (exactly p b) }

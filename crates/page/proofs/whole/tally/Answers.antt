@@ -4,4 +4,4 @@ use Rattle.page.proofs.whole.tally.Goals as goal
 
 pub returns : goal.returns
 returns c =
-    sym (tallied_whole c.args.page.now _ _ _ _ _ _ _ (sym c.section.ensures ∙ c.in-ok-names.was) (sym c.section-2.ensures ∙ c.in-ok-runs.was) (sym c.section-3.ensures ∙ c.in-ok-edits.was) (sym c.page-end.ensures ∙ c.in-ok-page-end.was))
+    sym (tallied_whole c.args.page.now _ _ _ _ _ _ _ (sym c.section.ensures ∙ c.in_ok-names.was) (sym c.section-2.ensures ∙ c.in_ok-runs.was) (sym c.section-3.ensures ∙ c.in_ok-edits.was) (sym c.page_end.ensures ∙ c.in_ok-page_end.was))

@@ -6,12 +6,12 @@ use Rattle.page_records.proofs.scan.section_end.Goals as goal
 
 pub loop-k-preserved : goal.loop-k-preserved
 loop-k-preserved c =
-    c.loop-k.invariant ∙ walk_more c.args.section c.args.page.now c.in-ok-count.count c.loop-k.k c.loop-k.at c.in-ok-at.at (omega arith) (sym c.record-end.ensures ∙ c.in-ok-at.was)
+    c.loop-k.invariant ∙ walk_more c.args.section c.args.page.now c.in_ok-count.count c.loop-k.k c.loop-k.at c.in_ok-at.at (omega arith) (sym c.record_end.ensures ∙ c.in_ok-at.was)
 
-pub returns-in-err-at : goal.returns-in-err-at
-returns-in-err-at c =
-    let p = err_from_is_err_and c.from-residual-in-err-at.result c.from-residual-in-err-at.ensures.1 in
-    let w = walk_stop c.args.section c.args.page.now c.in-ok-count.count c.loop-k.k c.loop-k.at c.in-err-at.field-0.0 (omega arith) (sym c.record-end.ensures ∙ c.in-err-at.was) in
-    let k : counted_at c.args.section c.args.page.now c.args.cursor.start ≡ Ok c.in-ok-count.count = sym c.count-at.ensures.value ∙ c.in-ok-count.was in
-    let r = rest_from_count c.args.section c.args.page.now c.args.cursor.start c.in-ok-count.count c.args.cursor.read c.args.cursor.at k in
+pub returns-in_err-at : goal.returns-in_err-at
+returns-in_err-at c =
+    let p = err_from_is_err_and c.from_residual-in_err-at.result c.from_residual-in_err-at.ensures.1 in
+    let w = walk_stop c.args.section c.args.page.now c.in_ok-count.count c.loop-k.k c.loop-k.at c.in_err-at.field-0.0 (omega arith) (sym c.record_end.ensures ∙ c.in_err-at.was) in
+    let k : counted_at c.args.section c.args.page.now c.args.cursor.start ≡ Ok c.in_ok-count.count = sym c.count_at.ensures.value ∙ c.in_ok-count.was in
+    let r = rest_from_count c.args.section c.args.page.now c.args.cursor.start c.in_ok-count.count c.args.cursor.read c.args.cursor.at k in
     p.1 ∙ (ap Err p.2 ∙ sym (r ∙ (c.loop-k.invariant ∙ w)))

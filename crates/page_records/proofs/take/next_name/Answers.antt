@@ -8,5 +8,5 @@ pub returns : goal.returns
 returns c =
     let page = c.args.page.now in
     let cursor = c.args.cursor in
-    let t = took Names page cursor c.in-ok-size.field-0 c.in-Some.size c.in-Some.is c.in-ok-size.ensures.value c.in-ok-size.ensures.fits in
+    let t = took Names page cursor c.in_ok-size.field-0 c.in-Some.size c.in-Some.is c.in_ok-size.ensures.value c.in_ok-size.ensures.fits in
     (t.next, c.past.ensures ∙ ap (moved cursor) t.size, past_first page cursor.at c.in-Some.size (get_or (drop cursor.at page) 0 0) t.size)
