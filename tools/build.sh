@@ -3,7 +3,7 @@
 root=$(cd "$(dirname "${BASH_SOURCE[0]}")/.." && pwd)
 
 build() {
-    local program=$1 log crate
+    local program=$1 log crate input=/dev/null
     local built=$root/crates/$program/out/$program
     shift
     for crate in "$@"; do
@@ -14,8 +14,9 @@ build() {
     fi
     command -v rt >/dev/null || { echo "$0: the Rattle toolchain's command rt is not on the PATH" >&2; exit 2; }
     log=$(mktemp)
-    # `rt run` proves, builds, and runs the program on its own example
-    if ! (cd "$root/crates/$program" && rt run) >"$log" 2>&1 </dev/null || [ ! -x "$built" ]; then
+    # `rt run` proves, builds and runs the program: on its own example, which ends with status 0
+    [ ! -f "$root/crates/$program/stdin" ] || input=$root/crates/$program/stdin
+    if ! (cd "$root/crates/$program" && rt run) >"$log" 2>&1 <"$input" || [ ! -x "$built" ]; then
         cat "$log" >&2
         rm -f "$log"
         exit 2

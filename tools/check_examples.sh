@@ -1,7 +1,7 @@
 #!/usr/bin/env bash
 # Runs bin/pages on every page in examples/, by file name and on standard
 # input, and compares what it prints and its exit status with the .expected
-# file beside the page.
+# file beside the page. It begins as a fresh checkout does: with nothing built.
 set -euo pipefail
 
 cd "$(dirname "${BASH_SOURCE[0]}")/.."
@@ -12,6 +12,9 @@ if [[ ! -x bin/pages ]]; then
     echo "examples: bin/pages is not there"
     exit 1
 fi
+
+# the first call below has to build the program
+rm -f crates/pages/out/pages
 
 pages=0
 differences=0

@@ -8,7 +8,6 @@ an entry of an event that would get its key's name ends in `_entry`. Only ghost 
 the pages of docs/ are touched: string literals of the sources stay.
 """
 import collections
-import os
 import pathlib
 import re
 
