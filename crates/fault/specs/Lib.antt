@@ -1,3 +1,4 @@
 pub mod Numbers
 pub mod Line
+pub mod Places
 pub mod Laws

@@ -5,6 +5,7 @@
 ghost use Rattle.std.specs.Prelude.{◌≡◌, Some};
 ghost use Rattle.fault.specs.Numbers.{book_number, plan_number, page_number, section_number, layer_of};
 ghost use Rattle.fault.specs.Line.{layer_word, fault_line};
+ghost use Rattle.fault.specs.Places.{located};
 ghost use Rattle.fault.specs.Laws.{NumbersDiffer, LayersNest};
 ghost use Rattle.fault.specs.declared.PlanFault.TheVariants.{Book};
 ghost use Rattle.fault.specs.declared.PageFault.TheVariants.{Plan};
@@ -14,12 +15,12 @@ use std::fmt;
 /// Why a book refuses. A book keeps entries in rising key.
 #[derive(Clone, Copy, PartialEq, Eq, Debug)]
 pub enum BookFault {
-    /// 20: an insert at a key that the book holds
-    KeyHeld,
-    /// 21: an insert into a book whose count is its capacity
-    Full,
-    /// 22: a removal of a key that the book does not hold
-    NotHeld,
+    /// an insert at a key that the book holds
+    KeyHeld = 20,
+    /// an insert into a book whose count is its capacity
+    Full = 21,
+    /// a removal of a key that the book does not hold
+    NotHeld = 22,
 }
 
 impl BookFault {
@@ -27,11 +28,7 @@ impl BookFault {
     pub fn number(self) -> u8
         ensures { result ≡ book_number self }
     {
-        match self {
-            BookFault::KeyHeld => 20,
-            BookFault::Full => 21,
-            BookFault::NotHeld => 22,
-        }
+        self as u8
     }
 }
 
@@ -139,6 +136,20 @@ impl PageFault {
             _ => Layer::Page,
         }
     }
+
+    /// The fault with where it lies: the section, the record, and the byte where that begins.
+    pub fn at(self, section: Section, record: u16, byte: usize) -> Located
+        ensures { result ≡ located self section «record» byte }
+    {
+        Located {
+            fault: self,
+            place: Place {
+                section,
+                record,
+                byte,
+            },
+        }
+    }
 }
 
 impl From<PlanFault> for PageFault {
@@ -158,13 +169,15 @@ pub enum Layer {
 }
 
 /// The layer that a number belongs to.
-pub fn layer_of_number(number: u8) -> Layer
-    ensures { result ≡ layer_of number }
-{
-    match number {
-        1..=5 => Layer::Page,
-        20..=22 => Layer::Book,
-        _ => Layer::Plan,
+impl From<u8> for Layer {
+    ghost from_gives = { λ n r. r ≡ layer_of n };
+
+    fn from(number: u8) -> Layer {
+        match number {
+            1..=5 => Layer::Page,
+            20..=22 => Layer::Book,
+            _ => Layer::Plan,
+        }
     }
 }
 
@@ -183,9 +196,9 @@ impl fmt::Display for Layer {
 /// The three sections of a page, in their order.
 #[derive(Clone, Copy, PartialEq, Eq, Debug)]
 pub enum Section {
-    Names,
-    Runs,
-    Edits,
+    Names = 1,
+    Runs = 2,
+    Edits = 3,
 }
 
 impl Section {
@@ -193,11 +206,7 @@ impl Section {
     pub fn number(self) -> u8
         ensures { result ≡ section_number self }
     {
-        match self {
-            Section::Names => 1,
-            Section::Runs => 2,
-            Section::Edits => 3,
-        }
+        self as u8
     }
 }
 
