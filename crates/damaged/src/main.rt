@@ -4,7 +4,6 @@
 
 use anyhow::anyhow;
 use page::check;
-use page_format::Counts;
 use std::io::{BufRead, BufReader};
 
 fn digit(c: u8) -> Option<u8> {
@@ -39,9 +38,9 @@ fn decode(rt: &HostRuntime, line: &str) -> anyhow::Result<Vec<u8>> {
 
 fn tell(rt: &HostRuntime, page: &[u8]) -> anyhow::Result<()> {
     match check(page) {
-        Ok(Counts { names, runs, edits }) => {
+        Ok(counts) => {
             let size = page.len();
-            println!(rt; "page of {size} bytes: {names} names, {runs} runs, {edits} edits")?;
+            println!(rt; "page of {size} bytes: {counts}")?;
         }
         Err(fault) => println!(rt; "{fault}")?,
     }

@@ -8,7 +8,7 @@ use Rattle.std.proofs.ByRecursion.{Decides-by_and}
 use Rattle.fault.specs.declared.PageFault.{PageFault}
 use Rattle.fault.specs.declared.Section.{Section}
 use Rattle.fault.specs.declared.Section.TheVariants.{Names, Runs, Edits}
-use Rattle.page_format.specs.declared.Add.{Add}
+use Rattle.run.specs.declared.Run.{Run}
 use Rattle.page_format.specs.declared.Retime.{Retime}
 use Rattle.page_format.specs.declared.Edit.TheVariants as edit
 use Rattle.page_format.specs.Grammar.{two, Item, Letter, AddFits, RetimeFits, Lawful, add_bytes, retime_bytes, item_bytes}
@@ -74,8 +74,8 @@ fault_none_size Edits [] h = let z : ◌≡◌ {A = ℕ} 0 1 = cc in absurd (ome
 fault_none_size Edits (k ∷ t) h = let p = (edit_none k t h).1 in (omega arith, omega arith)
 
 -- the fields come back from their bytes
-add_back : (a : Add) (rest : List ℕ) → add_of (add_bytes a ++ rest) ≡ a
-add_back a rest = rw (two_back a.run, four_back a.start, four_back a.end, two_back a.fittings)
+add_back : (a : Run) (rest : List ℕ) → add_of (add_bytes a ++ rest) ≡ a
+add_back a rest = rw (two_back a.number, four_back a.start, four_back a.end, two_back a.fittings)
 
 retime_back : (t : Retime) (rest : List ℕ) → retime_of (retime_bytes t ++ rest) ≡ t
 retime_back t rest = rw (two_back t.run, four_back t.start, four_back t.end)
@@ -121,7 +121,7 @@ record_written Edits (edit.Retime t) rest h =
 -- fields that are read fit their bytes, and have the bytes that were read
 add_fits : (s : List ℕ) → Bytes s → AddFits (add_of s)
 add_fits s h =
-    record { run = two_at_fits s 0 h; from = byte_at s 2 h; to = byte_at s 3 h; start = four_at_fits s 4 h; end = four_at_fits s 8 h; fittings = two_at_fits s 12 h }
+    record { number = two_at_fits s 0 h; from = byte_at s 2 h; to = byte_at s 3 h; start = four_at_fits s 4 h; end = four_at_fits s 8 h; fittings = two_at_fits s 12 h }
 
 add_same : (s : List ℕ) → Bytes s → 14 ≤ length s → add_bytes (add_of s) ≡ take 14 s
 add_same s h l =

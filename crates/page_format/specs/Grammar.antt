@@ -6,7 +6,7 @@ use Rattle.std.specs.Prelude.{ℕ, ◌/◌, ◌%◌, ◌<◌, ◌≤◌, List, [
 use Rattle.std.specs.List.{flat_map, AllByRecursion}
 use Rattle.fault.specs.declared.Section.{Section}
 use Rattle.fault.specs.declared.Section.TheVariants.{Names, Runs, Edits}
-use Rattle.page_format.specs.declared.Add.{Add}
+use Rattle.run.specs.declared.Run.{Run}
 use Rattle.page_format.specs.declared.Retime.{Retime}
 use Rattle.page_format.specs.declared.Edit.{Edit}
 use Rattle.page_format.specs.declared.Edit.TheVariants as edit
@@ -21,7 +21,7 @@ four n = n / 16777216 ∷ (n / 65536 % 256 ∷ (n / 256 % 256 ∷ (n % 256 ∷ [
 -- what a record of each section says: a vault's name, a run, an edit
 abbrev pub Item : Section → Type 0
 Item Names = List ℕ
-Item Runs = Add
+Item Runs = Run
 Item Edits = Edit
 
 -- the bytes of a name: its length, and its letters
@@ -29,8 +29,8 @@ abbrev pub name_bytes : List ℕ → List ℕ
 name_bytes name = length name ∷ name
 
 -- the fourteen bytes of a run
-abbrev pub add_bytes : Add → List ℕ
-add_bytes a = two a.run ++ (a.from ∷ (a.to ∷ (four a.start ++ (four a.end ++ two a.fittings))))
+abbrev pub add_bytes : Run → List ℕ
+add_bytes a = two a.number ++ (a.from ∷ (a.to ∷ (four a.start ++ (four a.end ++ two a.fittings))))
 
 abbrev pub retime_bytes : Retime → List ℕ
 retime_bytes t = two t.run ++ (four t.start ++ four t.end)
@@ -51,8 +51,8 @@ abbrev pub Letter : ℕ → Type 0
 Letter b = (33 ≤ b) × (b ≤ 126)
 
 -- the fields fit their bytes
-pub record AddFits (a : Add) : Type 0 where
-  pub run : a.run < 65536
+pub record AddFits (a : Run) : Type 0 where
+  pub number : a.number < 65536
   pub from : a.from < 256
   pub to : a.to < 256
   pub start : a.start < 4294967296
@@ -97,7 +97,7 @@ section_bytes x items = count_bytes x (length items) ++ flat_map (item_bytes x) 
 -- what a whole page says
 pub record Content : Type 0 where
   pub names : List (List ℕ)
-  pub runs : List Add
+  pub runs : List Run
   pub edits : List Edit
 
 pub record LawfulPage (c : Content) : Type 0 where

@@ -7,7 +7,7 @@ use Rattle.fault.specs.declared.PageFault.TheVariants.{Short, CountAboveLimit, B
 use Rattle.fault.specs.declared.Section.{Section}
 use Rattle.fault.specs.declared.Section.TheVariants.{Names, Runs, Edits}
 use Rattle.fault.specs.declared.Located.{Located}
-use Rattle.page_format.specs.declared.Add.{Add}
+use Rattle.run.specs.declared.Run.{Run}
 use Rattle.page_format.specs.declared.Retime.{Retime}
 use Rattle.page_format.specs.declared.Edit.{Edit}
 use Rattle.page_format.specs.declared.Edit.TheVariants as edit
@@ -61,8 +61,8 @@ record_size Edits s = 1 + kind_size (slice_index s 0)
 abbrev pub name_of : List ℕ → List ℕ
 name_of s = take (slice_index s 0) (drop 1 s)
 
-abbrev pub add_of : List ℕ → Add
-add_of s = record { run = two_at s 0; from = slice_index s 2; to = slice_index s 3; start = four_at s 4; end = four_at s 8; fittings = two_at s 12 }
+abbrev pub add_of : List ℕ → Run
+add_of s = record { number = two_at s 0; from = slice_index s 2; to = slice_index s 3; start = four_at s 4; end = four_at s 8; fittings = two_at s 12 }
 
 abbrev pub retime_of : List ℕ → Retime
 retime_of s = record { run = two_at s 0; start = four_at s 2; end = four_at s 6 }

@@ -4,18 +4,9 @@
 
 ghost use Rattle.page_format.specs.Laws.{ReadsBack, WritesBack, OneReading, PlacesWithin};
 
-mod text;
+use run::Run;
 
-/// A run to be added, as a page says it.
-#[derive(Clone, Copy, PartialEq, Eq, Debug)]
-pub struct Add {
-    pub run: u16,
-    pub from: u8,
-    pub to: u8,
-    pub start: u32,
-    pub end: u32,
-    pub fittings: u16,
-}
+mod text;
 
 /// A run's new times, as a page says them.
 #[derive(Clone, Copy, PartialEq, Eq, Debug)]
@@ -28,7 +19,7 @@ pub struct Retime {
 /// One edit of a page's last section.
 #[derive(Clone, Copy, PartialEq, Eq, Debug)]
 pub enum Edit {
-    Add(Add),
+    Add(Run),
     Cancel(u16),
     Retime(Retime),
 }

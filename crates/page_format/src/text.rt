@@ -1,24 +1,10 @@
 //! The lines in which a page is listed.
 
 ghost use Rattle.std.specs.Prelude.{Some};
-ghost use Rattle.page_format.specs.Text.{add_text, retime_text, edit_text};
+ghost use Rattle.page_format.specs.Text.{retime_text, edit_text, counts_text};
 
-use crate::{Add, Edit, Retime};
+use crate::{Counts, Edit, Retime};
 use std::fmt;
-
-impl fmt::Display for Add {
-    ghost output = { λ a. Some (add_text a) };
-
-    fn fmt<W: fmt::Write>(&self, f: &mut fmt::Formatter<W>) -> fmt::Result {
-        let run = self.run;
-        let from = self.from;
-        let start = self.start;
-        let to = self.to;
-        let end = self.end;
-        let fittings = self.fittings;
-        write!(f, "{run} {from} {start} {to} {end} fit {fittings}")
-    }
-}
 
 impl fmt::Display for Retime {
     ghost output = { λ t. Some (retime_text t) };
@@ -36,9 +22,20 @@ impl fmt::Display for Edit {
 
     fn fmt<W: fmt::Write>(&self, f: &mut fmt::Formatter<W>) -> fmt::Result {
         match self {
-            Edit::Add(a) => write!(f, "add {a}"),
+            Edit::Add(run) => write!(f, "add {run}"),
             Edit::Cancel(run) => write!(f, "cancel {run}"),
             Edit::Retime(t) => write!(f, "retime {t}"),
         }
+    }
+}
+
+impl fmt::Display for Counts {
+    ghost output = { λ n. Some (counts_text n) };
+
+    fn fmt<W: fmt::Write>(&self, f: &mut fmt::Formatter<W>) -> fmt::Result {
+        let names = self.names;
+        let runs = self.runs;
+        let edits = self.edits;
+        write!(f, "{names} names, {runs} runs, {edits} edits")
     }
 }

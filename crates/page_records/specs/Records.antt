@@ -3,7 +3,7 @@ use Rattle.std.specs.Prelude.{◌≡◌, ℕ, cond, List, length, take, drop, So
 use Rattle.std.specs.Borrow.{Bor}
 use Rattle.fault.specs.declared.Section.{Section}
 use Rattle.fault.specs.declared.Section.TheVariants.{Names, Runs, Edits}
-use Rattle.page_format.specs.declared.Add.{Add}
+use Rattle.run.specs.declared.Run.{Run}
 use Rattle.page_format.specs.declared.Edit.{Edit}
 use Rattle.page_format.specs.declared.Edit.TheVariants as edit
 use Rattle.page_format.specs.Reading.{two_at, add_of, retime_of}
@@ -35,7 +35,7 @@ name_in (case.Add part) = None
 name_in (case.Cancel part) = None
 name_in (case.Retime part) = None
 
-abbrev pub add_in : Record → Option Add
+abbrev pub add_in : Record → Option Run
 add_in (case.Name part) = None
 add_in (case.Add part) = whole part.now 14 (add_of part.now)
 add_in (case.Cancel part) = None

@@ -4,7 +4,8 @@ ghost use Rattle.std.specs.Prelude.{◌≡◌, ◌+◌, ◌≤◌, length};
 ghost use Rattle.page_format.specs.Reading.{two_at, four_at, add_of, retime_of};
 ghost use Rattle.page_records.specs.Records.{add_in, edit_in, of_kind};
 
-use page_format::{Add, Edit, Retime};
+use page_format::{Edit, Retime};
+use run::Run;
 
 /// A record of a page. Each case borrows its part of the page.
 #[derive(Clone, Copy)]
@@ -44,12 +45,12 @@ fn u32_at(s: &[u8], at: usize) -> u32
     u32::from_be_bytes([s[at], s[at + 1], s[at + 2], s[at + 3]])
 }
 
-fn decode_add(s: &[u8]) -> Add
+fn decode_add(s: &[u8]) -> Run
     requires { length s.now ≡ 14 }
     ensures { result ≡ add_of s.now }
 {
-    Add {
-        run: u16_at(s, 0),
+    Run {
+        number: u16_at(s, 0),
         from: s[2],
         to: s[3],
         start: u32_at(s, 4),
@@ -71,7 +72,7 @@ fn decode_retime(s: &[u8]) -> Retime
 
 impl<'a> Record<'a> {
     /// The run that an add says; none for another record, or for a part that is not fourteen bytes.
-    pub fn add(self) -> Option<Add>
+    pub fn add(self) -> Option<Run>
         ensures { result ≡ add_in self.entry }
     {
         match self {

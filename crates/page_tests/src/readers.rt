@@ -2,7 +2,8 @@
 
 use fault::{Located, PageFault, Place, Section};
 use page::{AtEdits, AtNames, AtRuns, Record, name_of};
-use page_format::{Add, Edit, Retime};
+use page_format::{Edit, Retime};
+use run::Run;
 use std::process::Abort;
 use std::test::Fail;
 
@@ -60,8 +61,8 @@ fn runs_in_their_order(rt: HostRuntime) -> Result<(), Fail> {
     let run = runs.next()?.ok_or("a run")?;
     assert_eq!(rt;
         run.add(),
-        Some(Add {
-            run: 258,
+        Some(Run {
+            number: 258,
             from: 3,
             to: 4,
             start: 256,
@@ -80,8 +81,8 @@ fn edits_in_their_order(rt: HostRuntime) -> Result<(), Fail> {
     edits_next(
         &rt,
         &mut edits,
-        Edit::Add(Add {
-            run: 1024,
+        Edit::Add(Run {
+            number: 1024,
             from: 5,
             to: 6,
             start: 7,

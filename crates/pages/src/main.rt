@@ -110,8 +110,7 @@ fn list(rt: &HostRuntime, page: &[u8], counts: Counts) -> Result<(), Trouble> {
     let mut edits = runs.step()?;
     list_edits(rt, &mut edits)?;
     let size = edits.step()?.len();
-    let Counts { names, runs, edits } = counts;
-    println!(rt; "page of {size} bytes: {names} names, {runs} runs, {edits} edits")?;
+    println!(rt; "page of {size} bytes: {counts}")?;
     Ok(())
 }
 

@@ -3,3 +3,4 @@ pub mod Times
 pub mod Keys
 pub mod Stretches
 pub mod Laws
+pub mod Text

@@ -8,6 +8,7 @@ ghost use Rattle.run.specs.Keys.{departure_key, arrival_key, departure_event, ar
 mod keys;
 mod laws;
 mod stretch;
+mod text;
 mod times;
 
 pub use keys::{
@@ -18,10 +19,10 @@ pub use laws::{keys_keep_order, keys_one_to_one, keys_read_back, stretches_hold}
 pub use stretch::Stretch;
 pub use times::check_times;
 
-/// A box's ride from one vault to another.
+/// A box's ride from one vault to another. In a plan its number is 1 to 1,024, its vaults are the
+/// plan's, and its times are lawful; a page may say any numbers.
 #[derive(Clone, Copy, PartialEq, Eq, Debug)]
 pub struct Run {
-    /// from 1 to 1,024
     pub number: u16,
     pub from: u8,
     pub to: u8,
