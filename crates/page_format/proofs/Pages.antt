@@ -19,7 +19,7 @@ at_end_ok : (p : List ℕ) (at e : ℕ) → at_end p at ≡ Ok e → length p �
 at_end_ok p at e h = go (ltb at (length p)) refl
   where
     go : (b : Bool) → ltb at (length p) ≡ b → length p ≤ at
-    go true t = let z : ◌≡◌ {A = ℕ} 0 1 = cc in absurd (omega arith)
+    go true t = cc
     go false t = ltb-false at (length p) t
 
 at_end_err : (p : List ℕ) (at : ℕ) (e : Located) → at ≤ length p → at_end p at ≡ Err e → e.place.byte ≤ length p
@@ -27,7 +27,7 @@ at_end_err p at e l h = go (ltb at (length p)) h
   where
     go : (b : Bool) → ◌≡◌ {A = Result ℕ Located} (cond b (Err (located Excess Edits 0 at)) (Ok at)) (Err e) → e.place.byte ≤ length p
     go true t = let q : located Excess Edits 0 at ≡ e = cc in let r : at ≡ e.place.byte = ap (λ (x : Located). x.place.byte) q in omega arith
-    go false t = let z : ◌≡◌ {A = ℕ} 0 1 = cc in absurd (omega arith)
+    go false t = cc
 
 -- what a page says whose sections begin at 0, a and b
 abbrev pub said : List ℕ → (a b : ℕ) → Content

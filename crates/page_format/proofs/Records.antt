@@ -18,12 +18,12 @@ use Rattle.page_format.proofs.Digits.{two_back, four_back, firsts_take, byte_at,
 
 -- a chain of checks gives no fault where each check passes
 pub cond_none : (b : Bool) (f : PageFault) (o : Option PageFault) → cond b (Some f) o ≡ None → (b ≡ false) × (o ≡ None)
-cond_none true f o h = let z : ◌≡◌ {A = ℕ} 0 1 = cc in absurd (omega arith)
+cond_none true f o h = cc
 cond_none false f o h = (refl, h)
 
 cond_last : (b : Bool) (f : PageFault) → cond b None (Some f) ≡ None → b ≡ true
 cond_last true f h = refl
-cond_last false f h = let z : ◌≡◌ {A = ℕ} 0 1 = cc in absurd (omega arith)
+cond_last false f h = cc
 
 -- the test of letters says that all are letters
 letter : (b : ℕ) → Decides (leb 33 b && leb b 126) (Letter b)
@@ -67,10 +67,10 @@ edit_none k t h =
 
 -- a record without fault has a byte at least, and ends within what there is
 pub fault_none_size : (x : Section) (s : List ℕ) → record_fault x s ≡ None → (1 ≤ record_size x s) × (record_size x s ≤ length s)
-fault_none_size Names [] h = let z : ◌≡◌ {A = ℕ} 0 1 = cc in absurd (omega arith)
+fault_none_size Names [] h = cc
 fault_none_size Names (b ∷ t) h = let p = name_none b t h in (omega arith, omega arith)
 fault_none_size Runs s h = (omega arith, ltb-false (length s) 14 (cond_none _ _ _ h).0)
-fault_none_size Edits [] h = let z : ◌≡◌ {A = ℕ} 0 1 = cc in absurd (omega arith)
+fault_none_size Edits [] h = cc
 fault_none_size Edits (k ∷ t) h = let p = (edit_none k t h).1 in (omega arith, omega arith)
 
 -- the fields come back from their bytes
@@ -160,8 +160,8 @@ edit_read k t h (inr (inr e)) = rw e (λ l. (retime_fits t h, ap (λ v. 3 ∷ v)
 
 -- every record without fault is written back
 pub record_read : (x : Section) (s : List ℕ) → Bytes s → record_fault x s ≡ None → Read x s
-record_read Names [] h f = let z : ◌≡◌ {A = ℕ} 0 1 = cc in absurd (omega arith)
+record_read Names [] h f = cc
 record_read Names (b ∷ t) h f = name_read b t f
 record_read Runs s h f = (add_fits s h, add_same s h (fault_none_size Runs s f).1)
-record_read Edits [] h f = let z : ◌≡◌ {A = ℕ} 0 1 = cc in absurd (omega arith)
+record_read Edits [] h f = cc
 record_read Edits (k ∷ t) h f = let p = edit_none k t f in edit_read k t h.1 p.0 p.1

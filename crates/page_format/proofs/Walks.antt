@@ -41,7 +41,7 @@ walk_within x (suc n) k at s e h =
 
 -- a fault among records lies within what there is, or at its end
 pub walk_fault : (x : Section) (n k at : ℕ) (s : List ℕ) (f : Located) → walk x n k at s ≡ Err f → (at ≤ f.place.byte) × (f.place.byte ≤ at + length s)
-walk_fault x zero k at s f h = let z : ◌≡◌ {A = ℕ} 0 1 = cc in absurd (omega arith)
+walk_fault x zero k at s f h = cc
 walk_fault x (suc n) k at s f h =
     let m = record_size x s in
     elim (unless_err (record_fault x s) (λ g. located g x k at) (walk x n (suc k) (at + m) (drop m s)) f h) [
