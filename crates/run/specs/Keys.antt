@@ -15,6 +15,11 @@ kind_bit false = 0
 abbrev pub event_key : (vault minute : ℕ) (departs : Bool) (number : ℕ) → ℕ
 event_key vault minute departs number = vault * 2 ^ 49 + minute * 2 ^ 17 + kind_bit departs * 2 ^ 16 + number
 
+-- in a layout of so many kinds: the kind's place among them stands above the number
+abbrev pub packed : (kinds vault minute place number : ℕ) → ℕ
+packed kinds vault minute place number =
+    vault * (kinds * 2 ^ 48) + minute * (kinds * 2 ^ 16) + place * 2 ^ 16 + number
+
 abbrev pub departure_key : Run → ℕ
 departure_key r = stop_key r.from r.start r.number
 

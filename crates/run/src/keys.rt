@@ -1,12 +1,13 @@
-//! Keys as numbers, in two layouts, and their fields read back.
+//! Keys as numbers, and their fields read back.
 //!
-//! A stop's key serves departures alone, or arrivals alone. From the top, it has the vault, 32 bits
-//! of minute and 16 bits of run number. An event's key serves both together, and has a bit more,
-//! above the number: 0 for an arrival and 1 for a departure.
+//! From the top, a key has the vault, 32 bits of minute, a bit for the kind if there are two, and 16
+//! bits of run number. A stop's key serves departures alone, or arrivals alone, and has no such
+//! bit. An event's key serves both together, and has 0 for an arrival and 1 for a departure.
 
-ghost use Rattle.std.specs.Prelude.{◌≡◌};
-ghost use Rattle.run.specs.Keys.{stop_key, stop_vault, stop_minute, stop_number};
-ghost use Rattle.run.specs.Keys.{event_key, event_vault, event_minute, event_departs, event_number};
+ghost use Rattle.std.specs.Prelude.{◌≡◌, ◌*◌, ◌^◌};
+ghost use Rattle.run.specs.Keys.{packed, stop_number, event_number, event_departs};
+
+use crate::kinds::Kind;
 
 /// One more than the largest run number that a key takes.
 const NUMBERS: u64 = 1 << 16;
@@ -15,78 +16,60 @@ const MINUTES: u64 = 1 << 32;
 /// One more than the largest vault that a key takes.
 const VAULTS: u64 = 1 << 8;
 
-/// From a minute's stops to the next minute's.
-pub(crate) const STOP_MINUTE: u64 = NUMBERS;
-/// From a vault's stops to the next vault's.
-pub(crate) const STOP_VAULT: u64 = MINUTES * STOP_MINUTE;
-/// From a minute's arrivals to its departures.
-const EVENT_KIND: u64 = NUMBERS;
-/// From a minute's events to the next minute's.
-pub(crate) const EVENT_MINUTE: u64 = 2 * EVENT_KIND;
-/// From a vault's events to the next vault's.
-pub(crate) const EVENT_VAULT: u64 = MINUTES * EVENT_MINUTE;
-
-/// Orders departures by from-vault, start and run number, and arrivals by to-vault, arrival minute
-/// and run number.
-pub fn stop_key(vault: u8, minute: u32, number: u16) -> u64
-    ensures { result ≡ stop_key vault minute number }
+/// From a minute's keys to the next minute's.
+pub(crate) fn minute_step<K: Kind>() -> u64
+    ensures { result ≡ K.COUNT * 2 ^ 16 }
 {
-    vault as u64 * STOP_VAULT + minute as u64 * STOP_MINUTE + number as u64
+    K::COUNT * NUMBERS
 }
 
-/// Orders events by vault, minute, arrivals before departures, and run number.
-pub fn event_key(vault: u8, minute: u32, departs: bool, number: u16) -> u64
-    ensures { result ≡ event_key vault minute departs number }
+/// From a vault's keys to the next vault's.
+pub(crate) fn vault_step<K: Kind>() -> u64
+    ensures { result ≡ K.COUNT * 2 ^ 48 }
 {
-    let kind = departs as u64 * EVENT_KIND;
-    vault as u64 * EVENT_VAULT + minute as u64 * EVENT_MINUTE + kind + number as u64
+    MINUTES * minute_step::<K>()
 }
 
-/// The vault of a stop's key.
-pub fn vault_of(key: u64) -> u8
-    ensures { result ≡ stop_vault key }
+/// The first key of a minute in a vault.
+pub(crate) fn first_key<K: Kind>(vault: u8, minute: u32) -> u64
+    ensures { result ≡ packed K.COUNT vault minute 0 0 }
 {
-    (key / STOP_VAULT % VAULTS) as u8
+    vault as u64 * vault_step::<K>() + minute as u64 * minute_step::<K>()
 }
 
-/// The minute of a stop's key.
-pub fn minute_of(key: u64) -> u32
-    ensures { result ≡ stop_minute key }
+/// Orders departures by from-vault, start and run number, arrivals by to-vault, arrival minute and
+/// run number, and events by vault, minute, arrivals before departures, and run number.
+pub fn key<K: Kind>(vault: u8, minute: u32, kind: K, number: u16) -> u64
+    ensures { result ≡ K.key vault minute kind number }
 {
-    (key / STOP_MINUTE % MINUTES) as u32
+    first_key::<K>(vault, minute) + kind.place() * NUMBERS + number as u64
 }
 
-/// The run number of a stop's key.
+/// The vault of a key.
+pub fn vault_of<K: Kind>(key: u64) -> u8
+    ensures { result ≡ K.vault key }
+{
+    (key / vault_step::<K>() % VAULTS) as u8
+}
+
+/// The minute of a key.
+pub fn minute_of<K: Kind>(key: u64) -> u32
+    ensures { result ≡ K.minute key }
+{
+    (key / minute_step::<K>() % MINUTES) as u32
+}
+
+/// The run number of a key, in either layout.
 pub fn number_of(key: u64) -> u16
-    ensures { result ≡ stop_number key }
+    ensures stop { result ≡ stop_number key }
+    ensures event { result ≡ event_number key }
 {
-    (key % STOP_MINUTE) as u16
-}
-
-/// The vault of an event's key.
-pub fn event_vault_of(key: u64) -> u8
-    ensures { result ≡ event_vault key }
-{
-    (key / EVENT_VAULT % VAULTS) as u8
-}
-
-/// The minute of an event's key.
-pub fn event_minute_of(key: u64) -> u32
-    ensures { result ≡ event_minute key }
-{
-    (key / EVENT_MINUTE % MINUTES) as u32
+    (key % NUMBERS) as u16
 }
 
 /// Whether an event's key is a departure's.
 pub fn departs(key: u64) -> bool
     ensures { result ≡ event_departs key }
 {
-    key / EVENT_KIND % 2 == 1
-}
-
-/// The run number of an event's key.
-pub fn event_number_of(key: u64) -> u16
-    ensures { result ≡ event_number key }
-{
-    (key % EVENT_KIND) as u16
+    key / NUMBERS % 2 == 1
 }

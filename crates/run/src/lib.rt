@@ -6,15 +6,14 @@ ghost use Rattle.run.specs.Minutes.{arrival_minute};
 ghost use Rattle.run.specs.Keys.{departure_key, arrival_key, departure_event, arrival_event};
 
 mod keys;
+mod kinds;
 mod laws;
 mod stretch;
 mod text;
 mod times;
 
-pub use keys::{
-    departs, event_key, event_minute_of, event_number_of, event_vault_of, minute_of, number_of,
-    stop_key, vault_of,
-};
+pub use keys::{departs, key, minute_of, number_of, vault_of};
+pub use kinds::{Event, Kind, Stop};
 pub use laws::{keys_keep_order, keys_one_to_one, keys_read_back, stretches_hold};
 pub use stretch::Stretch;
 pub use times::check_times;
@@ -44,28 +43,30 @@ impl Run {
     pub fn departure_key(&self) -> u64
         ensures { result ≡ departure_key self.now }
     {
-        stop_key(self.from, self.start, self.number)
+        key(self.from, self.start, Stop, self.number)
     }
 
     /// The arrival's key among arrivals: to-vault, arrival minute, number.
     pub fn arrival_key(&self) -> u64
         ensures { result ≡ arrival_key self.now }
     {
-        stop_key(self.to, self.arrival_minute(), self.number)
+        key(self.to, self.arrival_minute(), Stop, self.number)
     }
 
     /// The departure's key among events.
     pub fn departure_event(&self) -> u64
         ensures { result ≡ departure_event self.now }
     {
-        event_key(self.from, self.start, true, self.number)
+        let departure = Event { departs: true };
+        key(self.from, self.start, departure, self.number)
     }
 
     /// The arrival's key among events.
     pub fn arrival_event(&self) -> u64
         ensures { result ≡ arrival_event self.now }
     {
-        event_key(self.to, self.arrival_minute(), false, self.number)
+        let arrival = Event { departs: false };
+        key(self.to, self.arrival_minute(), arrival, self.number)
     }
 }
 

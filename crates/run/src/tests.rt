@@ -22,10 +22,10 @@ fn keys_of_the_last_run(rt: HostRuntime) {
         fittings: 0,
     };
     let key = run.arrival_key();
-    assert_eq!(rt; vault_of(key), 63);
-    assert_eq!(rt; minute_of(key), 16_777_215);
+    assert_eq!(rt; vault_of::<Stop>(key), 63);
+    assert_eq!(rt; minute_of::<Stop>(key), 16_777_215);
     assert_eq!(rt; number_of(key), 1_024);
-    let stops = Stretch::stops_in(63, 16_777_215, 16_777_215);
+    let stops = Stretch::of_minutes::<Stop>(63, 16_777_215, 16_777_215);
     assert!(rt; stops.lo <= key && key < stops.hi);
     assert!(rt; !departs(run.arrival_event()));
     assert!(rt; departs(run.departure_event()));
