@@ -1,7 +1,7 @@
 //! The readers: one type for each place in a page, so that a reader offers only the records of the
 //! section that it is at.
 
-ghost use Rattle.std.specs.Prelude.{◌≡◌, ℕ, length, Ok, Err, MatchResult};
+ghost use Rattle.std.specs.Prelude.{◌≡◌, ℕ, length, Ok, Err, IfOk, IfErr, OnOk};
 ghost use Rattle.fault.specs.declared.Section.TheVariants as section;
 ghost use Rattle.page_records.specs.Steps.{counted_at, opening, rest_of};
 ghost use Rattle.page_records.specs.Takes.{Next};
@@ -53,7 +53,7 @@ pub struct AtEnd<'a> {
 impl<'a, S: Stage> Reader<'a, S> {
     /// A reader at the section whose count stands at a byte.
     fn open(page: &'a [u8], start: usize) -> Reader<'a, S>
-        ensures page { result.scan.page ≡ page.entry }
+        ensures same { result.scan.page ≡ page.entry }
         ensures first { result.scan.cursor ≡ opening S.SECTION page.now start }
     {
         Reader {
@@ -82,7 +82,10 @@ impl<'a, S: Before> Reader<'a, S> {
     /// Checks the records that are left, and moves on to the next section; a fault hands the reader
     /// back.
     pub fn step(self) -> Result<Reader<'a, S::Next>, Refused<Reader<'a, S>>>
-        ensures { MatchResult result (λ n. (n.scan.page ≡ self.entry.scan.page) × Opened S.SECTION S.Next.SECTION self.entry.scan.page.now self.entry.scan.cursor n.scan.cursor) (λ e. (rest_of S.SECTION self.entry.scan.page.now self.entry.scan.cursor ≡ Err e.fault) × (e.reader ≡ self.entry)) }
+        ensures same { IfOk result (λ n. n.scan.page ≡ self.entry.scan.page) }
+        ensures opened { IfOk result (λ n. Opened S.SECTION S.Next.SECTION self.entry.scan.page.now self.entry.scan.cursor n.scan.cursor) }
+        ensures fault { IfErr result (λ e. rest_of S.SECTION self.entry.scan.page.now self.entry.scan.cursor ≡ Err e.fault) }
+        ensures back { IfErr result (λ e. e.reader ≡ self.entry) }
     {
         match self.scan.end() {
             Ok(end) => Ok(Reader::open(self.scan.page, end)),
@@ -97,18 +100,30 @@ impl<'a, S: Before> Reader<'a, S> {
 impl<'a> Reader<'a, Names> {
     /// A reader at the names of a page, which may be any bytes.
     pub fn new(page: &'a [u8]) -> AtNames<'a>
-        ensures { (result.scan.page ≡ page.entry) × (result.scan.cursor ≡ opening section.Names page.now 0) }
+        ensures same { result.scan.page ≡ page.entry }
+        ensures first { result.scan.cursor ≡ opening section.Names page.now 0 }
     {
         Reader::open(page, 0)
     }
 }
 
 impl<'a> Reader<'a, Edits> {
+    /// Where the edits end that are left, which has to be where the page ends.
+    fn end(&self) -> Result<usize, Located>
+        ensures { result ≡ edits_end self.now.scan.page.now self.now.scan.cursor }
+    {
+        let end = self.scan.end()?;
+        page_end(self.scan.page, end)
+    }
+
     /// Checks the edits that are left and that no byte follows them; a fault hands the reader back.
     pub fn step(self) -> Result<AtEnd<'a>, Refused<AtEdits<'a>>>
-        ensures { MatchResult result (λ n. (n.page ≡ self.entry.scan.page) × ((end : ℕ) × (edits_end self.entry.scan.page.now self.entry.scan.cursor ≡ Ok end))) (λ e. (edits_end self.entry.scan.page.now self.entry.scan.cursor ≡ Err e.fault) × (e.reader ≡ self.entry)) }
+        ensures same { IfOk result (λ n. n.page ≡ self.entry.scan.page) }
+        ensures whole { OnOk result ((end : ℕ) × (edits_end self.entry.scan.page.now self.entry.scan.cursor ≡ Ok end)) }
+        ensures fault { IfErr result (λ e. edits_end self.entry.scan.page.now self.entry.scan.cursor ≡ Err e.fault) }
+        ensures back { IfErr result (λ e. e.reader ≡ self.entry) }
     {
-        match edits_end(&self.scan) {
+        match self.end() {
             Ok(_) => Ok(AtEnd {
                 page: self.scan.page,
             }),
@@ -118,15 +133,6 @@ impl<'a> Reader<'a, Edits> {
             }),
         }
     }
-}
-
-/// Where the edits end that are left, which has to be where the page ends.
-fn edits_end(edits: &Scan) -> Result<usize, Located>
-    requires { edits.now.section ≡ section.Edits }
-    ensures { result ≡ edits_end edits.now.page.now edits.now.cursor }
-{
-    let end = edits.end()?;
-    page_end(edits.page, end)
 }
 
 impl<'a> AtEnd<'a> {

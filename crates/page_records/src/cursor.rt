@@ -20,9 +20,9 @@ impl Cursor {
         ensures { result ≡ moved self size }
     {
         Cursor {
-            start: self.start,
             read: self.read + 1,
             at: self.at + size,
+            ..self
         }
     }
 }
