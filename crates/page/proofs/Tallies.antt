@@ -1,18 +1,17 @@
 -- A page whose sections are sound is read whole.
-use Rattle.std.proofs.Common.{◌≡◌, ℕ, zero, suc, ◌+◌, List, length, drop, Ok, Err, Result, refl, ap, ◌∙◌, arith}
+use Rattle.std.proofs.Common.{◌≡◌, ℕ, zero, suc, ◌+◌, List, length, drop, Ok, refl, ap, ◌∙◌}
 use Rattle.fault.specs.declared.Section.{Section}
 use Rattle.fault.specs.declared.Section.TheVariants.{Names, Runs, Edits}
-use Rattle.fault.specs.declared.Located.{Located}
 use Rattle.page_format.specs.Grammar.{width}
-use Rattle.page_format.specs.Reading.{after, at_end, section_end, section_items, items, reading, count_of, record_size}
+use Rattle.page_format.specs.Reading.{at_end, section_end, section_items, items, reading, count_of, record_size}
+use Rattle.page_format.proofs.Steps.{after_ok}
 use Rattle.page.specs.Wholes.{section_read, tallied}
 
 pub section_ok : (x : Section) (p : List ℕ) (start n e : ℕ) → section_read x p start ≡ Ok (n, e) → (section_end x p start ≡ Ok e) × (count_of x (drop start p) ≡ n)
-section_ok x p start n e h = known (section_end x p start) refl h
-  where
-    known : (r : Result ℕ Located) → section_end x p start ≡ r → after {B = ℕ × ℕ} r (λ i. Ok (count_of x (drop start p), i)) ≡ Ok (n, e) → (section_end x p start ≡ Ok e) × (count_of x (drop start p) ≡ n)
-    known (Ok i) er k = let q : ◌≡◌ {A = ℕ × ℕ} (count_of x (drop start p), i) (n, e) = cc in (er ∙ ap Ok (ap (λ (j : ℕ × ℕ). j.1) q), ap (λ (j : ℕ × ℕ). j.0) q)
-    known (Err f) er k = absurd (let z : ◌≡◌ {A = ℕ} 0 1 = cc in omega arith)
+section_ok x p start n e h =
+    let q = after_ok (section_end x p start) (λ i. Ok (count_of x (drop start p), i)) (n, e) h in
+    let z : ◌≡◌ {A = ℕ × ℕ} (count_of x (drop start p), q.0) (n, e) = cc in
+    (q.1 ∙ ap Ok (ap (λ (j : ℕ × ℕ). j.1) z), ap (λ (j : ℕ × ℕ). j.0) z)
 
 pub length_items : (x : Section) (n : ℕ) (s : List ℕ) → length (items x n s) ≡ n
 length_items x zero s = refl

@@ -1,20 +1,11 @@
 -- What the calls of a reader answer, and where they leave it.
-use Rattle.std.specs.Prelude.{◌≡◌, ℕ, List, drop, Some, None, Ok, Err, Option, Result}
+use Rattle.std.specs.Prelude.{◌≡◌, ℕ, List, Ok, Result}
 use Rattle.fault.specs.declared.Section.{Section}
 use Rattle.fault.specs.declared.Section.TheVariants.{Edits}
 use Rattle.fault.specs.declared.Located.{Located}
-use Rattle.page_format.specs.Reading.{record_size, after, at_end}
+use Rattle.page_format.specs.Reading.{after, at_end}
 use Rattle.page_records.specs.declared.cursor.Cursor.{Cursor}
-use Rattle.page_records.specs.declared.record.Record.{Record}
-use Rattle.page_records.specs.Records.{Holds}
-use Rattle.page_records.specs.Steps.{next_size, moved, opening, rest_of}
-
--- a reader at c that was asked for its next record answered r and is at d
-abbrev pub Next : Section → List ℕ → Cursor → Cursor → Result (Option Record) Located → Type 0
-Next x p c d (Err e) = (next_size x p c ≡ Err e) × (d ≡ c)
-Next x p c d (Ok None) = (next_size x p c ≡ Ok None) × (d ≡ c)
-Next x p c d (Ok (Some r)) =
-    (next_size x p c ≡ Ok (Some (record_size x (drop c.at p)))) × (d ≡ moved c (record_size x (drop c.at p))) × Holds x (drop c.at p) r
+use Rattle.page_records.specs.Steps.{opening, rest_of}
 
 -- a reader at c, whose section x was sound to its end, went on to d at the opening of the section y
 pub record Opened (x y : Section) (p : List ℕ) (c d : Cursor) : Type 0 where

@@ -5,8 +5,9 @@
 #![tactic(auto)]
 
 mod reader;
+pub mod stage;
 mod whole;
 
-pub use page_records::{Cursor, Record};
-pub use reader::{AtEdits, AtEnd, AtNames, AtRuns, Refused};
+pub use page_records::{Cursor, Record, Scan};
+pub use reader::{AtEdits, AtEnd, AtNames, AtRuns, Reader, Refused};
 pub use whole::{check, name_of};

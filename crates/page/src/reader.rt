@@ -1,15 +1,16 @@
 //! The readers: one type for each place in a page, so that a reader offers only the records of the
 //! section that it is at.
 
-ghost use Rattle.std.specs.Prelude.{◌≡◌, ℕ, length, Ok, Err, MatchResult};
-ghost use Rattle.fault.specs.declared.Section.TheVariants.{Names, Runs, Edits};
+ghost use Rattle.std.specs.Prelude.{◌≡◌, ℕ, length, Ok, Err, IfOk, IfErr, OnOk};
+ghost use Rattle.fault.specs.declared.Section.TheVariants as section;
 ghost use Rattle.page_records.specs.Steps.{counted_at, opening, rest_of};
-ghost use Rattle.page.specs.Reads.{Next, Opened, edits_end};
+ghost use Rattle.page_records.specs.Takes.{Next};
+ghost use Rattle.page.specs.Reads.{Opened, edits_end};
 
-use fault::{Located, Section};
-use page_records::{
-    Cursor, Record, count_at, next_edit, next_name, next_run, open_at, page_end, section_end,
-};
+use crate::stage::{Before, Edits, Names, Runs, Stage};
+use fault::Located;
+use page_records::{Record, Scan, page_end};
+use std::marker::PhantomData;
 
 /// A refused step: the fault, and the reader where it was.
 #[derive(Drop)]
@@ -26,26 +27,22 @@ impl<R: Drop> From<Refused<R>> for Located {
     }
 }
 
-/// A reader at the names.
+/// A reader at a section of a page.
 #[derive(Drop)]
-pub struct AtNames<'a> {
-    page: &'a [u8],
-    cursor: Cursor,
+pub struct Reader<'a, S: Stage> {
+    scan: Scan<'a>,
+    stage: PhantomData<S>,
+    ghost here: { scan.section ≡ S.SECTION },
 }
+
+/// A reader at the names.
+pub type AtNames<'a> = Reader<'a, Names>;
 
 /// A reader at the runs.
-#[derive(Drop)]
-pub struct AtRuns<'a> {
-    page: &'a [u8],
-    cursor: Cursor,
-}
+pub type AtRuns<'a> = Reader<'a, Runs>;
 
 /// A reader at the edits.
-#[derive(Drop)]
-pub struct AtEdits<'a> {
-    page: &'a [u8],
-    cursor: Cursor,
-}
+pub type AtEdits<'a> = Reader<'a, Edits>;
 
 /// A reader at the end of a whole page.
 #[derive(Drop)]
@@ -53,130 +50,89 @@ pub struct AtEnd<'a> {
     page: &'a [u8],
 }
 
-impl<'a> AtNames<'a> {
+impl<'a, S: Stage> Reader<'a, S> {
+    /// A reader at the section whose count stands at a byte.
+    fn open(page: &'a [u8], start: usize) -> Reader<'a, S>
+        ensures same { result.scan.page ≡ page.entry }
+        ensures first { result.scan.cursor ≡ opening S.SECTION page.now start }
+    {
+        Reader {
+            scan: Scan::open(page, S::SECTION, start),
+            stage: PhantomData,
+        }
+    }
+
+    /// How many records the page says that the section has, or the fault of that count.
+    pub fn count(&self) -> Result<u16, Located>
+        ensures { result ≡ counted_at S.SECTION self.now.scan.page.now self.now.scan.cursor.start }
+    {
+        self.scan.count()
+    }
+
+    /// The next record, none after the last, or the fault, which leaves the reader where it was.
+    pub fn next(&mut self) -> Result<Option<Record<'a>>, Located>
+        ensures same { self.new.scan.page ≡ self.old.scan.page }
+        ensures next { Next S.SECTION self.old.scan.page.now self.old.scan.cursor self.new.scan.cursor result }
+    {
+        self.scan.next()
+    }
+}
+
+impl<'a, S: Before> Reader<'a, S> {
+    /// Checks the records that are left, and moves on to the next section; a fault hands the reader
+    /// back.
+    pub fn step(self) -> Result<Reader<'a, S::Next>, Refused<Reader<'a, S>>>
+        ensures same { IfOk result (λ n. n.scan.page ≡ self.entry.scan.page) }
+        ensures opened { IfOk result (λ n. Opened S.SECTION S.Next.SECTION self.entry.scan.page.now self.entry.scan.cursor n.scan.cursor) }
+        ensures fault { IfErr result (λ e. rest_of S.SECTION self.entry.scan.page.now self.entry.scan.cursor ≡ Err e.fault) }
+        ensures back { IfErr result (λ e. e.reader ≡ self.entry) }
+    {
+        match self.scan.end() {
+            Ok(end) => Ok(Reader::open(self.scan.page, end)),
+            Err(fault) => Err(Refused {
+                fault,
+                reader: self,
+            }),
+        }
+    }
+}
+
+impl<'a> Reader<'a, Names> {
     /// A reader at the names of a page, which may be any bytes.
     pub fn new(page: &'a [u8]) -> AtNames<'a>
-        ensures { (result.page ≡ page.entry) × (result.cursor ≡ opening Names page.now 0) }
+        ensures same { result.scan.page ≡ page.entry }
+        ensures first { result.scan.cursor ≡ opening section.Names page.now 0 }
     {
-        AtNames {
-            page,
-            cursor: open_at(page, Section::Names, 0),
-        }
-    }
-
-    /// How many names the page says it has, or the fault of that count.
-    pub fn count(&self) -> Result<u16, Located>
-        ensures { result ≡ counted_at Names self.now.page.now self.now.cursor.start }
-    {
-        count_at(self.page, Section::Names, self.cursor.start)
-    }
-
-    /// The next name, none after the last, or the fault, which leaves the reader where it was.
-    pub fn next(&mut self) -> Result<Option<Record<'a>>, Located>
-        ensures same { self.new.page ≡ self.old.page }
-        ensures next { Next Names self.old.page.now self.old.cursor self.new.cursor result }
-    {
-        let Some((record, cursor)) = next_name(self.page, self.cursor)? else {
-            return Ok(None);
-        };
-        self.cursor = cursor;
-        Ok(Some(record))
-    }
-
-    /// Checks the names that are left, and moves on to the runs; a fault hands the reader back.
-    pub fn step(self) -> Result<AtRuns<'a>, Refused<AtNames<'a>>>
-        ensures { MatchResult result (λ n. (n.page ≡ self.entry.page) × Opened Names Runs self.entry.page.now self.entry.cursor n.cursor) (λ e. (rest_of Names self.entry.page.now self.entry.cursor ≡ Err e.fault) × (e.reader ≡ self.entry)) }
-    {
-        match section_end(self.page, Section::Names, self.cursor) {
-            Ok(end) => Ok(AtRuns {
-                page: self.page,
-                cursor: open_at(self.page, Section::Runs, end),
-            }),
-            Err(fault) => Err(Refused {
-                fault,
-                reader: self,
-            }),
-        }
+        Reader::open(page, 0)
     }
 }
 
-impl<'a> AtRuns<'a> {
-    /// How many runs the page says it has, or the fault of that count.
-    pub fn count(&self) -> Result<u16, Located>
-        ensures { result ≡ counted_at Runs self.now.page.now self.now.cursor.start }
+impl<'a> Reader<'a, Edits> {
+    /// Where the edits end that are left, which has to be where the page ends.
+    fn end(&self) -> Result<usize, Located>
+        ensures { result ≡ edits_end self.now.scan.page.now self.now.scan.cursor }
     {
-        count_at(self.page, Section::Runs, self.cursor.start)
-    }
-
-    /// The next run, none after the last, or the fault, which leaves the reader where it was.
-    pub fn next(&mut self) -> Result<Option<Record<'a>>, Located>
-        ensures same { self.new.page ≡ self.old.page }
-        ensures next { Next Runs self.old.page.now self.old.cursor self.new.cursor result }
-    {
-        let Some((record, cursor)) = next_run(self.page, self.cursor)? else {
-            return Ok(None);
-        };
-        self.cursor = cursor;
-        Ok(Some(record))
-    }
-
-    /// Checks the runs that are left, and moves on to the edits; a fault hands the reader back.
-    pub fn step(self) -> Result<AtEdits<'a>, Refused<AtRuns<'a>>>
-        ensures { MatchResult result (λ n. (n.page ≡ self.entry.page) × Opened Runs Edits self.entry.page.now self.entry.cursor n.cursor) (λ e. (rest_of Runs self.entry.page.now self.entry.cursor ≡ Err e.fault) × (e.reader ≡ self.entry)) }
-    {
-        match section_end(self.page, Section::Runs, self.cursor) {
-            Ok(end) => Ok(AtEdits {
-                page: self.page,
-                cursor: open_at(self.page, Section::Edits, end),
-            }),
-            Err(fault) => Err(Refused {
-                fault,
-                reader: self,
-            }),
-        }
-    }
-}
-
-impl<'a> AtEdits<'a> {
-    /// How many edits the page says it has, or the fault of that count.
-    pub fn count(&self) -> Result<u16, Located>
-        ensures { result ≡ counted_at Edits self.now.page.now self.now.cursor.start }
-    {
-        count_at(self.page, Section::Edits, self.cursor.start)
-    }
-
-    /// The next edit, none after the last, or the fault, which leaves the reader where it was.
-    pub fn next(&mut self) -> Result<Option<Record<'a>>, Located>
-        ensures same { self.new.page ≡ self.old.page }
-        ensures next { Next Edits self.old.page.now self.old.cursor self.new.cursor result }
-    {
-        let Some((record, cursor)) = next_edit(self.page, self.cursor)? else {
-            return Ok(None);
-        };
-        self.cursor = cursor;
-        Ok(Some(record))
+        let end = self.scan.end()?;
+        page_end(self.scan.page, end)
     }
 
     /// Checks the edits that are left and that no byte follows them; a fault hands the reader back.
     pub fn step(self) -> Result<AtEnd<'a>, Refused<AtEdits<'a>>>
-        ensures { MatchResult result (λ n. (n.page ≡ self.entry.page) × ((end : ℕ) × (edits_end self.entry.page.now self.entry.cursor ≡ Ok end))) (λ e. (edits_end self.entry.page.now self.entry.cursor ≡ Err e.fault) × (e.reader ≡ self.entry)) }
+        ensures same { IfOk result (λ n. n.page ≡ self.entry.scan.page) }
+        ensures whole { OnOk result ((end : ℕ) × (edits_end self.entry.scan.page.now self.entry.scan.cursor ≡ Ok end)) }
+        ensures fault { IfErr result (λ e. edits_end self.entry.scan.page.now self.entry.scan.cursor ≡ Err e.fault) }
+        ensures back { IfErr result (λ e. e.reader ≡ self.entry) }
     {
-        match edits_end(self.page, self.cursor) {
-            Ok(_) => Ok(AtEnd { page: self.page }),
+        match self.end() {
+            Ok(_) => Ok(AtEnd {
+                page: self.scan.page,
+            }),
             Err(fault) => Err(Refused {
                 fault,
                 reader: self,
             }),
         }
     }
-}
-
-/// Where the edits end that are left, which has to be where the page ends.
-fn edits_end(page: &[u8], cursor: Cursor) -> Result<usize, Located>
-    ensures { result ≡ edits_end page.now cursor }
-{
-    let end = section_end(page, Section::Edits, cursor)?;
-    page_end(page, end)
 }
 
 impl<'a> AtEnd<'a> {

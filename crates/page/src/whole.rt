@@ -6,16 +6,15 @@ ghost use Rattle.page.specs.Wholes.{section_read, tallied, Encodes, NoPage, NoNa
 
 use fault::{Located, Section};
 use page_format::Counts;
-use page_records::{count_at, open_at, page_end, section_end};
+use page_records::{Scan, page_end};
 
 /// How many records the section has whose count stands at a byte, and where it ends; or its first
 /// fault.
 fn section(page: &[u8], section: Section, start: usize) -> Result<(u16, usize), Located>
     ensures { result ≡ section_read section page.now start }
 {
-    let count = count_at(page, section, start)?;
-    let end = section_end(page, section, open_at(page, section, start))?;
-    Ok((count, end))
+    let scan = Scan::open(page, section, start);
+    Ok((scan.count()?, scan.end()?))
 }
 
 /// How many names, runs and edits the page has, or its first fault.
@@ -43,17 +42,15 @@ pub fn check(page: &[u8]) -> Result<Counts, Located>
 fn name_span(page: &[u8], k: usize) -> Option<(usize, usize)>
     ensures { MatchOption result (NoName page.now k) (λ x. Span page.now k x.0 x.1) }
 {
-    let Ok((count, _)) = section(page, Section::Names, 0) else {
-        return None;
-    };
+    let (count, _) = section(page, Section::Names, 0).ok()?;
     if usize::from(count) <= k {
         return None;
     }
     let mut at: usize = 1;
-    for _i in 0..k {
-        at += 1 + page[at] as usize;
+    for _ in 0..k {
+        at += 1 + usize::from(page[at]);
     }
-    Some((at + 1, page[at] as usize))
+    Some((at + 1, usize::from(page[at])))
 }
 
 /// The name of vault k as its part of the page, and the byte where that part begins; none where the

@@ -11,7 +11,7 @@ use Rattle.page_records.specs.declared.cursor.Cursor.{Cursor}
 use Rattle.page_laws.specs.Laws.{ReadersHandOut}
 use Rattle.page_records.specs.Steps.{moved, rest_of}
 use Rattle.page_laws.specs.Walked.{gathered}
-use Rattle.page_laws.proofs.Walked.{count, next_none, next_stop, next_some}
+use Rattle.page_records.proofs.Walks.{count, next_none, next_stop, next_some}
 
 -- n calls of `next` hand out all that is left of a sound section, if that is at most n records
 abbrev HandsOut : (x : Section) → List ℕ → ℕ → Cursor → Type 0

@@ -1,47 +1,20 @@
 -- Readers that are asked for their records to the end.
-use Rattle.std.proofs.Common.{◌≡◌, ℕ, zero, suc, ◌+◌, ◌-◌, ◌<◌, ◌≤◌, ◌⊎◌, List, length, drop, Some, None, Ok, Err, Option, Result, refl, inl, inr, add-one, arith, lit≤}
-use Rattle.std.proofs.lemmas.List.{drop-drop}
-use Rattle.std.proofs.lemmas.Bool.{le-leb, lt-leb, cases_lt}
+use Rattle.std.proofs.Common.{◌≡◌, ℕ, zero, suc, ◌+◌, ◌-◌, ◌<◌, ◌≤◌, ◌⊎◌, List, length, drop, Some, None, Ok, Err, Option, Result, refl, inl, inr, arith, lit≤}
+use Rattle.std.proofs.lemmas.Bool.{le-leb, cases_lt}
 use Rattle.fault.specs.declared.PageFault.{PageFault}
 use Rattle.fault.specs.declared.Section.{Section}
 use Rattle.fault.specs.declared.Section.TheVariants.{Names, Runs, Edits}
 use Rattle.fault.specs.declared.Located.{Located}
 use Rattle.page_format.specs.Grammar.{limit, width}
-use Rattle.page_format.specs.Reading.{after, at_end, located, record_fault, record_size, count_fault, count_of, section_end, reading}
+use Rattle.page_format.specs.Reading.{after, at_end, record_fault, record_size, count_fault, count_of, section_end, reading}
 use Rattle.page_format.proofs.Sections.{count_none}
 use Rattle.page_records.specs.declared.cursor.Cursor.{Cursor}
+use Rattle.page_records.proofs.Walks.{count, next_fault, next_none, next_stop, next_some}
 use Rattle.page_laws.specs.Laws.{ReadersAgree, NextKeeps}
-use Rattle.page_records.specs.Steps.{next_size, moved, opening, rest_of}
+use Rattle.page_records.specs.Steps.{moved, opening, rest_of}
 use Rattle.page_laws.specs.Walked.{walked, to_end, walked_page}
 use Rattle.page.specs.Wholes.{tallied}
 use Rattle.page.proofs.Tallies.{length_items}
-
--- how many records the cursor's section has
-abbrev pub count : Section → List ℕ → Cursor → ℕ
-count x p c = count_of x (drop c.start p)
-
--- the four ways of a call of `next`, with what the step says there: the count has a fault
-next_fault : (x : Section) (p : List ℕ) (c : Cursor) (f : PageFault) → count_fault x (drop c.start p) ≡ Some f → (next_size x p c ≡ Err (located f x 0 c.start)) × (rest_of x p c ≡ Err (located f x 0 c.start))
-next_fault x p c f h = (rw h, rw h)
-
--- all records are read
-pub next_none : (x : Section) (p : List ℕ) (c : Cursor) → count_fault x (drop c.start p) ≡ None → count x p c ≤ c.read → (next_size x p c ≡ Ok None) × (rest_of x p c ≡ Ok c.at)
-next_none x p c h l =
-    let m : count x p c - c.read ≡ 0 = omega arith in
-    (rw (h, le-leb (count x p c) c.read l), rw (h, m))
-
--- the next record has a fault
-pub next_stop : (x : Section) (p : List ℕ) (c : Cursor) (f : PageFault) → count_fault x (drop c.start p) ≡ None → c.read < count x p c → record_fault x (drop c.at p) ≡ Some f → (next_size x p c ≡ Err (located f x (suc c.read) c.at)) × (rest_of x p c ≡ Err (located f x (suc c.read) c.at))
-next_stop x p c f h l r =
-    let m : count x p c - c.read ≡ suc (count x p c - (c.read + 1)) = omega arith in
-    (rw (h, lt-leb (count x p c) c.read l, r), rw (h, m, r))
-
--- the next record is sound
-pub next_some : (x : Section) (p : List ℕ) (c : Cursor) → count_fault x (drop c.start p) ≡ None → c.read < count x p c → record_fault x (drop c.at p) ≡ None → (next_size x p c ≡ Ok (Some (record_size x (drop c.at p)))) × (rest_of x p (moved c (record_size x (drop c.at p))) ≡ rest_of x p c)
-next_some x p c h l r =
-    let n = record_size x (drop c.at p) in
-    let m : count x p c - c.read ≡ suc (count x p c - (c.read + 1)) = omega arith in
-    (rw (h, lt-leb (count x p c) c.read l, r), rw (h, m, r, drop-drop n c.at p, add-one c.read))
 
 -- reading a record does not change what the step will say
 pub next_keeps : NextKeeps

@@ -1,5 +1,5 @@
 -- A reader's single steps.
-use Rattle.std.specs.Prelude.{ℕ, suc, ◌+◌, ◌<◌, ◌≤◌, cond, List, length, drop, Some, None, Ok, Err, Option, Result, nat_le}
+use Rattle.std.specs.Prelude.{ℕ, suc, ◌+◌, cond, List, length, drop, Some, None, Ok, Err, Option, Result, nat_le}
 use Rattle.fault.specs.declared.PageFault.{PageFault}
 use Rattle.fault.specs.declared.Section.{Section}
 use Rattle.fault.specs.declared.Located.{Located}
@@ -29,12 +29,6 @@ next_size x p c =
     unless (count_fault x (drop c.start p)) (λ f. Err (located f x 0 c.start))
     (cond (nat_le (count_of x (drop c.start p)) c.read) (Ok None)
     (unless (record_fault x (drop c.at p)) (λ f. Err (located f x (suc c.read) c.at)) (Ok (Some (record_size x (drop c.at p))))))
-
--- a record of this size lies on the page at the cursor, and there are few enough before it
-pub record Fits (p : List ℕ) (c : Cursor) (size : ℕ) : Type 0 where
-  pub some : 2 ≤ size
-  pub within : c.at + size ≤ length p
-  pub few : c.read < 2048
 
 -- the cursor of a section whose count stands at `start`: its first record begins past the count, if the page has that whole
 abbrev pub opening : Section → List ℕ → ℕ → Cursor

@@ -15,13 +15,14 @@ pub struct Cursor {
 impl Cursor {
     /// The cursor past a record of this size.
     pub(crate) fn past(self, size: usize) -> Cursor
-        requires { (self.read + 1 < 2 ^ 16) × (self.at + size < 2 ^ 64) }
+        requires one_more { self.read + 1 < 2 ^ 16 }
+        requires within { self.at + size < 2 ^ 64 }
         ensures { result ≡ moved self size }
     {
         Cursor {
-            start: self.start,
             read: self.read + 1,
             at: self.at + size,
+            ..self
         }
     }
 }

@@ -3,11 +3,11 @@
 #![tactic(auto)]
 
 mod cursor;
+mod kind;
+mod parts;
 mod record;
 mod scan;
-mod take;
 
 pub use cursor::Cursor;
 pub use record::Record;
-pub use scan::{count_at, open_at, page_end, section_end};
-pub use take::{next_edit, next_name, next_run};
+pub use scan::{Scan, page_end};

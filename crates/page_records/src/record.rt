@@ -1,8 +1,8 @@
 //! The records of a page, each as its part of the caller's bytes, and what they say.
 
-ghost use Rattle.std.specs.Prelude.{◌≡◌, ◌+◌, ◌≤◌, length};
-ghost use Rattle.page_format.specs.Reading.{two_at, four_at, add_of, retime_of};
-ghost use Rattle.page_records.specs.Records.{add_in, edit_in, of_kind};
+ghost use Rattle.std.specs.Prelude.{◌≡◌, ◌+◌, ◌≤◌, length, take, drop};
+ghost use Rattle.page_format.specs.Reading.{add_of, retime_of};
+ghost use Rattle.page_records.specs.Records.{add_in, edit_in};
 
 use page_format::{Edit, Retime};
 use run::Run;
@@ -20,53 +20,34 @@ pub enum Record<'a> {
     Retime(&'a [u8]),
 }
 
-/// The record of an edit of a kind that is known to be 1, 2 or 3.
-pub(crate) fn edit_record<'a>(kind: u8, part: &'a [u8]) -> Record<'a>
-    ensures { result ≡ of_kind kind part.entry }
+/// The N bytes from a place on.
+fn bytes_at<const N: usize>(s: &[u8], at: usize) -> [u8; N]
+    requires { at + N ≤ length s.now }
+    ensures { result ≡ take N (drop at s.now) }
 {
-    match kind {
-        1 => Record::Add(part),
-        2 => Record::Cancel(part),
-        _ => Record::Retime(part),
-    }
+    *s[at..].first_chunk().unwrap()
 }
 
-fn u16_at(s: &[u8], at: usize) -> u16
-    requires { at + 2 ≤ length s.now }
-    ensures { result ≡ two_at s.now at }
-{
-    u16::from_be_bytes([s[at], s[at + 1]])
-}
-
-fn u32_at(s: &[u8], at: usize) -> u32
-    requires { at + 4 ≤ length s.now }
-    ensures { result ≡ four_at s.now at }
-{
-    u32::from_be_bytes([s[at], s[at + 1], s[at + 2], s[at + 3]])
-}
-
-fn decode_add(s: &[u8]) -> Run
-    requires { length s.now ≡ 14 }
-    ensures { result ≡ add_of s.now }
+fn decode_add(part: &[u8; 14]) -> Run
+    ensures { result ≡ add_of part.now }
 {
     Run {
-        number: u16_at(s, 0),
-        from: s[2],
-        to: s[3],
-        start: u32_at(s, 4),
-        end: u32_at(s, 8),
-        fittings: u16_at(s, 12),
+        number: u16::from_be_bytes(bytes_at(part, 0)),
+        from: part[2],
+        to: part[3],
+        start: u32::from_be_bytes(bytes_at(part, 4)),
+        end: u32::from_be_bytes(bytes_at(part, 8)),
+        fittings: u16::from_be_bytes(bytes_at(part, 12)),
     }
 }
 
-fn decode_retime(s: &[u8]) -> Retime
-    requires { length s.now ≡ 10 }
-    ensures { result ≡ retime_of s.now }
+fn decode_retime(part: &[u8; 10]) -> Retime
+    ensures { result ≡ retime_of part.now }
 {
     Retime {
-        run: u16_at(s, 0),
-        start: u32_at(s, 2),
-        end: u32_at(s, 6),
+        run: u16::from_be_bytes(bytes_at(part, 0)),
+        start: u32::from_be_bytes(bytes_at(part, 2)),
+        end: u32::from_be_bytes(bytes_at(part, 6)),
     }
 }
 
@@ -76,12 +57,7 @@ impl<'a> Record<'a> {
         ensures { result ≡ add_in self.entry }
     {
         match self {
-            Record::Add(part) => {
-                if part.len() != 14 {
-                    return None;
-                }
-                Some(decode_add(part))
-            }
+            Record::Add(part) => Some(decode_add(part.as_array()?)),
             _ => None,
         }
     }
@@ -93,24 +69,9 @@ impl<'a> Record<'a> {
     {
         match self {
             Record::Name(_) => None,
-            Record::Add(part) => {
-                if part.len() != 14 {
-                    return None;
-                }
-                Some(Edit::Add(decode_add(part)))
-            }
-            Record::Cancel(part) => {
-                if part.len() != 2 {
-                    return None;
-                }
-                Some(Edit::Cancel(u16_at(part, 0)))
-            }
-            Record::Retime(part) => {
-                if part.len() != 10 {
-                    return None;
-                }
-                Some(Edit::Retime(decode_retime(part)))
-            }
+            Record::Add(_) => self.add().map(Edit::Add),
+            Record::Cancel(part) => Some(Edit::Cancel(u16::from_be_bytes(*part.as_array()?))),
+            Record::Retime(part) => Some(Edit::Retime(decode_retime(part.as_array()?))),
         }
     }
 }

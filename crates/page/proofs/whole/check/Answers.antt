@@ -4,8 +4,8 @@ use Rattle.page_format.specs.Laws.{Bytes}
 use Rattle.page.proofs.Exact.{exactly}
 use Rattle.page.proofs.whole.check.Goals as goal
 
-pub returns : goal.returns
-returns c =
+pub returns-clause-exact : goal.returns-clause-exact
+returns-clause-exact c =
     let p = c.args.page.now in
     let b : Bytes p = All-from_get_or (λ n. n < 256) p 0 (λ i l. (let f = c.type_inv.page i in omega arith)) in
-    record { value = c.tally.ensures; exact = rw c.tally.ensures (exactly p b) }
+    rw c.tally.ensures (exactly p b)

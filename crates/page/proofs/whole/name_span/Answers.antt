@@ -1,30 +1,24 @@
-use Rattle.std.proofs.Common.{◌≡◌, sym, ◌∙◌, arith}
-use Rattle.fault.specs.declared.Section.TheVariants.{Names}
-use Rattle.page.proofs.Names.{reached_first, reached_within, reached_more, span_at}
-use Rattle.page.proofs.Tallies.{section_ok}
+use Rattle.std.proofs.Common.{◌≡◌, arith, rules}
+use Rattle.page.proofs.Names.{reached_here, reached_more, reached_span}
 use Rattle.page.proofs.whole.name_span.Goals as goal
 
-pub loop-i-init : goal.loop-i-init
-loop-i-init c = reached_first c.args.page.now _ (section_ok Names c.args.page.now 0 _ _ (sym c.section.ensures ∙ c.in-Ok.is)).0
-
 pub bounds-page-at : goal.bounds-page-at
-bounds-page-at c = omega (arith, reached_within c.args.page.now _ _ c.loop-i._i c.loop-i.at (sym c.section.ensures ∙ c.in-Ok.is) (omega arith) c.loop-i.invariant)
+bounds-page-at c = let h = reached_here _ _ _ _ (search rules) c.loop.invariant in omega arith
 
-pub overflow_add-at-in-loop-i : goal.overflow_add-at-in-loop-i
-overflow_add-at-in-loop-i c = omega (arith, reached_within c.args.page.now _ _ c.loop-i._i c.loop-i.at (sym c.section.ensures ∙ c.in-Ok.is) (omega arith) c.loop-i.invariant)
+pub overflow_add-at-in-loop : goal.overflow_add-at-in-loop
+overflow_add-at-in-loop c = let h = reached_here _ _ _ _ (search rules) c.loop.invariant in search rules
 
-pub loop-i-preserved : goal.loop-i-preserved
-loop-i-preserved c =
-    let s = section_ok Names c.args.page.now 0 _ _ (sym c.section.ensures ∙ c.in-Ok.is) in
-    reached_more c.args.page.now c.loop-i._i c.loop-i.at (omega arith) c.loop-i.invariant
-
-pub bounds-page-at-2 : goal.bounds-page-at-2
-bounds-page-at-2 c = omega (arith, reached_within c.args.page.now _ _ c.loop-i._i c.loop-i.at (sym c.section.ensures ∙ c.in-Ok.is) (omega arith) c.loop-i.invariant)
+pub loop-preserved : goal.loop-preserved
+loop-preserved c = let h = reached_more _ _ _ _ (search rules) c.loop.invariant in search rules
 
 pub overflow_add-result : goal.overflow_add-result
-overflow_add-result c = omega (arith, reached_within c.args.page.now _ _ c.loop-i._i c.loop-i.at (sym c.section.ensures ∙ c.in-Ok.is) (omega arith) c.loop-i.invariant)
+overflow_add-result c = let h = reached_here _ _ _ _ (omega arith) c.loop.invariant in search rules
+
+pub bounds-page-at-2 : goal.bounds-page-at-2
+bounds-page-at-2 c = let h = reached_here _ _ _ _ (omega arith) c.loop.invariant in omega arith
 
 pub returns : goal.returns
 returns c =
-    let e : c.loop-i._i ≡ c.args.k = omega arith in
-    span_at c.args.page.now _ _ c.args.k c.loop-i.at (sym c.section.ensures ∙ c.in-Ok.is) (omega arith) (rw e at c.loop-i.invariant)
+    let e : c.loop.counter ≡ c.args.k = omega arith in
+    let h = reached_span _ _ _ _ (omega arith) (rw e at c.loop.invariant) in
+    search rules

@@ -1,5 +1,5 @@
 use Rattle.page.proofs.Names.{Reached}
 use Rattle.page.proofs.whole.name_span.Given as goal
 
-abbrev pub invariant-loop-i : goal.invariant-loop-i
-invariant-loop-i l = Reached l.page l._i l.at
+abbrev pub invariant-loop : goal.invariant-loop
+invariant-loop l = Reached l.page l.count l.counter l.at
