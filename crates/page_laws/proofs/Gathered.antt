@@ -29,7 +29,7 @@ hands_one x p n c more e h l m q = left (cases_lt c.read (count x p c))
         let z : count x p c - c.read ≡ suc (count x p c - (c.read + 1)) = omega arith in
         let i = more (record_size x (drop c.at p)) e h (omega arith) (omega arith) (rw w.1 q) in
         rw (w.0, z, drop-drop (record_size x (drop c.at p)) c.at p, i)
-    sound k (Some f) r = let w = next_stop x p c f h k r in absurd (let z : ◌≡◌ {A = ℕ} 0 1 = cc in omega arith)
+    sound k (Some f) r = let w = next_stop x p c f h k r in cc
 
     left : (c.read < count x p c) ⊎ (count x p c ≤ c.read) → gathered x p (suc n) c ≡ items x (count x p c - c.read) (drop c.at p)
     left (inl k) = sound k (record_fault x (drop c.at p)) refl

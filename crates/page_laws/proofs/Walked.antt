@@ -25,15 +25,15 @@ next_keeps x p c size e = counted (count_fault x (drop c.start p)) refl
         let w = next_some x p c h l r in
         let k : record_size x (drop c.at p) ≡ size = cc in
         rw k at w.1
-    sound h l (Some f) r = let w = next_stop x p c f h l r in absurd (let z : ◌≡◌ {A = ℕ} 0 1 = cc in omega arith)
+    sound h l (Some f) r = let w = next_stop x p c f h l r in cc
 
     left : count_fault x (drop c.start p) ≡ None → (c.read < count x p c) ⊎ (count x p c ≤ c.read) → rest_of x p (moved c size) ≡ rest_of x p c
     left h (inl l) = sound h l (record_fault x (drop c.at p)) refl
-    left h (inr l) = let w = next_none x p c h l in absurd (let z : ◌≡◌ {A = ℕ} 0 1 = cc in omega arith)
+    left h (inr l) = let w = next_none x p c h l in cc
 
     counted : (o : Option PageFault) → count_fault x (drop c.start p) ≡ o → rest_of x p (moved c size) ≡ rest_of x p c
     counted None h = left h (cases_lt c.read (count x p c))
-    counted (Some f) h = let w = next_fault x p c f h in absurd (let z : ◌≡◌ {A = ℕ} 0 1 = cc in omega arith)
+    counted (Some f) h = let w = next_fault x p c f h in cc
 
 -- the cursor past the last record of the section that has its count at `start`
 abbrev ended : Section → List ℕ → (start end : ℕ) → Cursor

@@ -55,5 +55,5 @@ pub rest_stop : (x : Section) (p : List ℕ) (c : Cursor) (n : ℕ) (e : Located
 rest_stop x p c n e h l t = known (record_fault x (drop c.at p)) refl
   where
     known : (o : Option PageFault) → record_fault x (drop c.at p) ≡ o → rest_of x p c ≡ Err e
-    known None r = absurd (let z : ◌≡◌ {A = ℕ} 0 1 = cc in omega arith)
+    known None r = cc
     known (Some f) r = let q = counted_ok x p c.start n h in (next_stop x p c f q.0 (omega arith) r).1 ∙ cc

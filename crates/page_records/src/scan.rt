@@ -7,7 +7,7 @@ ghost use Rattle.page_format.specs.Reading.{at_end};
 use crate::cursor::Cursor;
 use crate::parts::{count_of, record_of, rest, width};
 use crate::record::Record;
-use fault::{Located, PageFault, Place, Section};
+use fault::{Located, PageFault, Section};
 
 /// A section of a page, and how far it is read.
 #[derive(Clone, Copy)]
@@ -44,13 +44,10 @@ impl<'a> Scan<'a> {
         ensures value { result ≡ counted_at self.now.section self.now.page.now self.now.cursor.start }
         ensures few { IfOk result (λ n. n ≤ limit self.now.section) }
     {
-        let place = Place {
-            section: self.section,
-            record: 0,
-            byte: self.cursor.start,
-        };
-        let s = rest(self.page, self.cursor.start);
-        count_of(self.section, s).map_err(|fault| Located { fault, place })
+        let section = self.section;
+        let start = self.cursor.start;
+        let counted = count_of(section, rest(self.page, start));
+        counted.map_err(|fault| fault.at(section, 0, start))
     }
 
     /// Takes the record at the cursor, or tells its fault.
@@ -59,13 +56,11 @@ impl<'a> Scan<'a> {
         ensures same { (self.new.page ≡ self.old.page) × (self.new.section ≡ self.old.section) }
         ensures took { Took self.old.section self.old.page.now self.old.cursor self.new.cursor result }
     {
-        let place = Place {
-            section: self.section,
-            record: self.cursor.read + 1,
-            byte: self.cursor.at,
-        };
-        let s = rest(self.page, self.cursor.at);
-        let (record, size) = record_of(self.section, s).map_err(|fault| Located { fault, place })?;
+        let section = self.section;
+        let at = self.cursor.at;
+        let number = self.cursor.read + 1;
+        let found = record_of(section, rest(self.page, at));
+        let (record, size) = found.map_err(|fault| fault.at(section, number, at))?;
         self.cursor = self.cursor.past(size);
         Ok(record)
     }
@@ -87,7 +82,7 @@ impl<'a> Scan<'a> {
     {
         let count = self.count()?;
         let mut scan = *self;
-        while scan.cursor.read < count {
+        for _ in self.cursor.read..count {
             scan.take()?;
         }
         Ok(scan.cursor.at)
@@ -99,13 +94,7 @@ pub fn page_end(page: &[u8], at: usize) -> Result<usize, Located>
     ensures { result ≡ at_end page.now at }
 {
     if at < page.len() {
-        let fault = PageFault::Excess;
-        let place = Place {
-            section: Section::Edits,
-            record: 0,
-            byte: at,
-        };
-        return Err(Located { fault, place });
+        return Err(PageFault::Excess.at(Section::Edits, 0, at));
     }
     Ok(at)
 }
