@@ -75,6 +75,7 @@ reached_more p n i at h r =
       place = omega arith;
     }
 
+-- it lies on the page, behind the byte of its length
 pub reached_span : (p : List ℕ) (n k at : ℕ) → k < n → Reached p n k at → Span p k (at + 1) (get_or p at 0)
 reached_span p n k at h r =
     let f = reached_here p n k at h r in
