@@ -4,8 +4,10 @@
 #![tactic(auto)]
 
 use fault::Located;
-use page::{AtEdits, AtNames, AtRuns, Record, Refused, check};
+use page::stage::Stage;
+use page::{AtNames, Reader, Record, Refused, check};
 use page_format::Counts;
+use std::fmt::Display;
 use std::io::Read;
 use std::process::ExitCode;
 use std::{env, fs, io};
@@ -56,59 +58,51 @@ fn input(rt: &HostRuntime) -> io::Result<Vec<u8>> {
     Ok(page)
 }
 
-fn list_names(rt: &HostRuntime, names: &mut AtNames) -> Result<(), Trouble> {
-    let count = names.count()?;
-    println!(rt; "names {count}")?;
+/// Tells how many records the section has, and then each of them by a line.
+fn list<'a, S: Stage, L: FnMut(u16, Record<'a>) -> Result<(), Trouble>>(
+    rt: &HostRuntime,
+    word: &str,
+    reader: &mut Reader<'a, S>,
+    mut line: L,
+) -> Result<(), Trouble>
+    requires { L.IsAlwaysCallable line }
+{
+    let count = reader.count()?;
+    println!(rt; "{word} {count}")?;
     for k in 0..count {
-        let Some(Record::Name(part)) = names.next()? else {
-            return Err(Trouble::Unlisted);
-        };
-        let Ok(name) = std::str::from_utf8(part) else {
-            return Err(Trouble::Unlisted);
-        };
-        println!(rt; "{k} {name}")?;
+        let record = reader.next()?.ok_or(Trouble::Unlisted)?;
+        line(k, record)?;
     }
     Ok(())
 }
 
-fn list_runs(rt: &HostRuntime, runs: &mut AtRuns) -> Result<(), Trouble> {
-    let count = runs.count()?;
-    println!(rt; "runs {count}")?;
-    for _ in 0..count {
-        let Some(record) = runs.next()? else {
-            return Err(Trouble::Unlisted);
-        };
-        let Some(run) = record.add() else {
-            return Err(Trouble::Unlisted);
-        };
-        println!(rt; "{run}")?;
-    }
+/// A line of what a record says.
+fn say<T: Display + Drop>(rt: &HostRuntime, said: Option<T>) -> Result<(), Trouble> {
+    let said = said.ok_or(Trouble::Unlisted)?;
+    println!(rt; "{said}")?;
     Ok(())
 }
 
-fn list_edits(rt: &HostRuntime, edits: &mut AtEdits) -> Result<(), Trouble> {
-    let count = edits.count()?;
-    println!(rt; "edits {count}")?;
-    for _ in 0..count {
-        let Some(record) = edits.next()? else {
-            return Err(Trouble::Unlisted);
-        };
-        let Some(edit) = record.edit() else {
-            return Err(Trouble::Unlisted);
-        };
-        println!(rt; "{edit}")?;
-    }
+/// A line of a vault and its name.
+fn say_name(rt: &HostRuntime, k: u16, record: Record) -> Result<(), Trouble> {
+    let Record::Name(part) = record else {
+        return Err(Trouble::Unlisted);
+    };
+    let Ok(name) = std::str::from_utf8(part) else {
+        return Err(Trouble::Unlisted);
+    };
+    println!(rt; "{k} {name}")?;
     Ok(())
 }
 
 /// Lists a page that `check` found good.
-fn list(rt: &HostRuntime, page: &[u8], counts: Counts) -> Result<(), Trouble> {
+fn list_page(rt: &HostRuntime, page: &[u8], counts: Counts) -> Result<(), Trouble> {
     let mut names = AtNames::new(page);
-    list_names(rt, &mut names)?;
+    list(rt, "names", &mut names, |k, record| say_name(rt, k, record))?;
     let mut runs = names.step()?;
-    list_runs(rt, &mut runs)?;
+    list(rt, "runs", &mut runs, |_, record| say(rt, record.add()))?;
     let mut edits = runs.step()?;
-    list_edits(rt, &mut edits)?;
+    list(rt, "edits", &mut edits, |_, record| say(rt, record.edit()))?;
     let size = edits.step()?.len();
     println!(rt; "page of {size} bytes: {counts}")?;
     Ok(())
@@ -117,7 +111,7 @@ fn list(rt: &HostRuntime, page: &[u8], counts: Counts) -> Result<(), Trouble> {
 fn run(rt: &HostRuntime) -> Result<(), Trouble> {
     let page = input(rt)?;
     let counts = check(&page)?;
-    list(rt, &page, counts)
+    list_page(rt, &page, counts)
 }
 
 fn main(rt: HostRuntime) -> Result<ExitCode, Trouble> {
