@@ -1,9 +1,10 @@
 //! Each limit and one past it, each truncation, each fault at its first possible place.
 
-use fault::{Located, PageFault, Place, Section};
+use fault::{PageFault, Section};
 use page::check;
 use page_format::Counts;
 use std::alloc::{AllocError, Global};
+use std::iter::repeat_n;
 use std::process::Abort;
 use std::test::Fail;
 
@@ -16,12 +17,7 @@ fn refuses(
     record: u16,
     byte: usize,
 ) {
-    let place = Place {
-        section,
-        record,
-        byte,
-    };
-    assert_eq!(rt; check(page), Err(Located { fault, place }));
+    assert_eq!(rt; check(page), Err(fault.at(section, record, byte)));
 }
 
 /// The page has so many records.
@@ -29,19 +25,11 @@ fn has(rt: &impl Abort, page: &[u8], names: u16, runs: u16, edits: u16) {
     assert_eq!(rt; check(page), Ok(Counts { names, runs, edits }));
 }
 
-/// Bytes of one value, so many times, at the end of a page.
-fn push_many(page: &mut Vec<u8>, byte: u8, n: usize) -> Result<(), AllocError> {
-    for _ in 0..n {
-        page.push(byte)?;
-    }
-    Ok(())
-}
-
 /// A page with one name of a length and a letter, and nothing else.
 fn one_name(heap: Global, length: u8, letter: u8) -> Result<Vec<u8>, AllocError> {
     let mut page = vec![in heap; 1, length]?;
-    push_many(&mut page, letter, length as usize)?;
-    push_many(&mut page, 0, 4)?;
+    page.extend(repeat_n(letter, usize::from(length)))?;
+    page.extend_from_slice(&[0; 4])?;
     Ok(page)
 }
 
@@ -49,15 +37,12 @@ fn one_name(heap: Global, length: u8, letter: u8) -> Result<Vec<u8>, AllocError>
 fn full_page(heap: Global, names: u8, runs: u16, edits: u16) -> Result<Vec<u8>, AllocError> {
     let mut page = vec![in heap; names]?;
     for _ in 0..names {
-        push_many(&mut page, 1, 1)?;
-        push_many(&mut page, 97, 1)?;
+        page.extend_from_slice(b"\x01a")?;
     }
     page.extend_from_slice(&runs.to_be_bytes())?;
-    push_many(&mut page, 0, 14 * runs as usize)?;
+    page.extend(repeat_n(0, 14 * usize::from(runs)))?;
     page.extend_from_slice(&edits.to_be_bytes())?;
-    for _ in 0..edits {
-        push_many(&mut page, 2, 3)?;
-    }
+    page.extend(repeat_n(2, 3 * usize::from(edits)))?;
     Ok(page)
 }
 
@@ -202,10 +187,10 @@ fn length_before_short_and_byte_after(rt: HostRuntime) {
 #[test]
 fn a_long_input_of_any_content(rt: HostRuntime) -> Result<(), Fail> {
     let mut zeros = Vec::new(rt.alloc());
-    push_many(&mut zeros, 0, 70_000)?;
+    zeros.extend(repeat_n(0, 70_000))?;
     refuses(&rt, &zeros, PageFault::Excess, Section::Edits, 0, 5);
     let mut ones = Vec::new(rt.alloc());
-    push_many(&mut ones, 255, 70_000)?;
+    ones.extend(repeat_n(255, 70_000))?;
     refuses(&rt, &ones, PageFault::CountAboveLimit, Section::Names, 0, 0);
     Ok(())
 }

@@ -1,7 +1,8 @@
 //! Readers walked by hand.
 
-use fault::{Located, PageFault, Place, Section};
-use page::{AtEdits, AtNames, AtRuns, Record, name_of};
+use fault::{Located, PageFault, Section};
+use page::stage::Before;
+use page::{AtEdits, AtNames, Reader, Record, name_of};
 use page_format::{Edit, Retime};
 use run::Run;
 use std::process::Abort;
@@ -11,12 +12,9 @@ use std::test::Fail;
 const PAGE: &[u8; 54] =
     b"\x02\x02ab\x01c\x00\x01\x01\x02\x03\x04\x00\x00\x01\x00\x00\x01\x00\x00\x80\x01\x00\x03\x01\x04\x00\x05\x06\x00\x00\x00\x07\x00\x00\x00\x08\x00\x09\x02\x03\xe8\x03\x00\x01\x00\x00\x00\x09\xff\xff\xff\xff\x00";
 
-fn to_runs(names: AtNames) -> Result<AtRuns, Located> {
-    Ok(names.step()?)
-}
-
-fn to_edits(runs: AtRuns) -> Result<AtEdits, Located> {
-    Ok(runs.step()?)
+/// The reader at the next section.
+fn past<'a, S: Before>(reader: Reader<'a, S>) -> Result<Reader<'a, S::Next>, Located> {
+    Ok(reader.step()?)
 }
 
 fn to_end(edits: AtEdits) -> Result<usize, Located> {
@@ -57,7 +55,7 @@ fn names_in_their_order(rt: HostRuntime) -> Result<(), Fail> {
 
 #[test]
 fn runs_in_their_order(rt: HostRuntime) -> Result<(), Fail> {
-    let mut runs = to_runs(AtNames::new(PAGE))?;
+    let mut runs = past(AtNames::new(PAGE))?;
     let run = runs.next()?.ok_or("a run")?;
     assert_eq!(rt;
         run.add(),
@@ -77,7 +75,7 @@ fn runs_in_their_order(rt: HostRuntime) -> Result<(), Fail> {
 #[test]
 fn edits_in_their_order(rt: HostRuntime) -> Result<(), Fail> {
     let page: &[u8] = PAGE;
-    let mut edits = to_edits(to_runs(AtNames::new(&page[0..53]))?)?;
+    let mut edits = past(past(AtNames::new(&page[0..53]))?)?;
     edits_next(
         &rt,
         &mut edits,
@@ -112,25 +110,13 @@ fn records_of_another_size_say_nothing(rt: HostRuntime) {
     assert!(rt; Record::Name(b"ab").edit().is_none());
 }
 
-fn told(fault: PageFault, section: Section, record: u16, byte: usize) -> Located {
-    let place = Place {
-        section,
-        record,
-        byte,
-    };
-    Located { fault, place }
-}
-
 #[test]
 fn a_refused_step_hands_the_reader_back(rt: HostRuntime) -> Result<(), Fail> {
-    let edits = to_edits(to_runs(AtNames::new(PAGE))?)?;
+    let edits = past(past(AtNames::new(PAGE))?)?;
     let Err(refused) = edits.step() else {
         return Err(Fail::new("a byte follows the last record"));
     };
-    assert_eq!(rt;
-        refused.fault,
-        told(PageFault::Excess, Section::Edits, 0, 53)
-    );
+    assert_eq!(rt; refused.fault, PageFault::Excess.at(Section::Edits, 0, 53));
     let mut edits = refused.reader;
     assert!(rt; edits.next()?.is_some());
     Ok(())
@@ -138,7 +124,7 @@ fn a_refused_step_hands_the_reader_back(rt: HostRuntime) -> Result<(), Fail> {
 
 #[test]
 fn a_bad_count_shows_at_each_call(rt: HostRuntime) -> Result<(), Fail> {
-    let high = told(PageFault::CountAboveLimit, Section::Names, 0, 0);
+    let high = PageFault::CountAboveLimit.at(Section::Names, 0, 0);
     let mut names = AtNames::new(b"A");
     assert!(rt; names.count() == Err(high));
     let Err(fault) = names.next() else {
@@ -160,7 +146,7 @@ fn a_fault_leaves_the_reader(rt: HostRuntime) -> Result<(), Fail> {
         let Err(fault) = names.next() else {
             return Err(Fail::new("a space in a name"));
         };
-        assert_eq!(rt; fault, told(PageFault::BadName, Section::Names, 2, 3));
+        assert_eq!(rt; fault, PageFault::BadName.at(Section::Names, 2, 3));
     }
     Ok(())
 }
