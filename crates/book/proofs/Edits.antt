@@ -1,14 +1,10 @@
 -- What an insert and a removal do to a list of entries.
 use Rattle.std.proofs.Common.{◌≡◌, ℕ, suc, ◌+◌, ◌<◌, ◌≤◌, Bool, true, false, cond, ◌||◌, eqb, ltb, ◌⊎◌, ◌↔◌, List, [], ◌∷◌, length, Some, None, Option, sym, refl, ap, ◌∙◌, inl, inr, ⊎_elim, arith}
 use Rattle.std.specs.List.{ContainsAt as Has, AllByRecursion as All}
+use Rattle.std.proofs.ByRecursion.{all-has}
 use Rattle.std.proofs.lemmas.Bool.{cases_order, cases_lt, cases_eq, cond-true, cond-false, cond_both, ltb-true, ltb-false, lt-ltb, le-ltb, eqb-true, eqb-false, eq-eqb, ne_eqb, or_parts, false≢true}
 use Rattle.book.specs.Entries.{ascending, held, value_of, inserted, removed}
-use Rattle.book.proofs.Members.{Mem, has_mem, mem_has, all_mem}
-use Rattle.book.proofs.Order.{Above, Strict, above_more, strict, ascends}
-
--- the members that an edit leaves, told by Has
-by_mem : {X : Type 0} {A : Type 0} (xs : List X) (x : X) → Mem x xs ↔ A → Has xs x ↔ A
-by_mem xs x w = (λ h. w.0 (has_mem xs x h), λ a. mem_has xs x (w.1 a))
+use Rattle.book.proofs.Order.{Above, Strict, has_cons, above_more, strict, ascends}
 
 module _ {V : Type 0} where
   -- at which test an insert puts its entry, and a removal takes one out
@@ -41,32 +37,21 @@ module _ {V : Type 0} where
       (λ t. let l = ltb-true k e.0 t in ((l, above_more k e.0 es (omega arith) s.0), s))
       (λ t. let l = ltb-false k e.0 t in let ne = n.0 in let m : e.0 < k = omega arith in (all_inserted (λ x. e.0 < x.0) k v es m s.0, z))
 
-  mem_inserted : (k : ℕ) (v : V) (es : List (ℕ × V)) (x : ℕ × V) → Mem x (inserted k v es) ↔ (((k, v) ≡ x) ⊎ Mem x es)
-  mem_inserted k v [] x = (λ m. m, λ m. m)
-  mem_inserted k v (e ∷ es) x =
-      let ih = mem_inserted k v es x in
-      cond_both (ltb k e.0) _ _ (λ l. Mem x l ↔ (((k, v) ≡ x) ⊎ Mem x (e ∷ es))) (λ _. (λ m. m, λ m. m)) (λ _. (to ih, from ih))
-    where
-      IH : Type 0
-      IH = Mem x (inserted k v es) ↔ (((k, v) ≡ x) ⊎ Mem x es)
-
-      to : IH → Mem x (e ∷ inserted k v es) → ((k, v) ≡ x) ⊎ Mem x (e ∷ es)
-      to ih (inl q) = inr (inl q)
-      to ih (inr m) = ⊎_elim (λ q. inl q) (λ n. inr (inr n)) (ih.0 m)
-
-      from : IH → ((k, v) ≡ x) ⊎ Mem x (e ∷ es) → Mem x (e ∷ inserted k v es)
-      from ih (inl q) = inr (ih.1 (inl q))
-      from ih (inr (inl q)) = inl q
-      from ih (inr (inr m)) = inr (ih.1 (inr m))
-
   pub inserted_ascends : (k : ℕ) (v : V) (es : List (ℕ × V)) → ascending es ≡ true → held k es ≡ false → ascending (inserted k v es) ≡ true
   inserted_ascends k v es s h = ascends (inserted k v es) (inserted_strict k v es (strict es s) h)
 
   pub has_inserted : (k : ℕ) (v : V) (es : List (ℕ × V)) (x : ℕ × V) → Has (inserted k v es) x ↔ (((k, v) ≡ x) ⊎ Has es x)
-  has_inserted k v es x =
-      let w = mem_inserted k v es x in
-      by_mem (inserted k v es) x
-      (λ m. ⊎_elim (λ q. inl q) (λ n. inr (mem_has es x n)) (w.0 m), λ h. w.1 (⊎_elim (λ q. inl q) (λ n. inr (has_mem es x n)) h))
+  has_inserted k v [] x = has_cons (k, v) [] x
+  has_inserted k v (e ∷ es) x =
+      let ih = has_inserted k v es x in
+      let old = has_cons e es x in
+      let new = has_cons e (inserted k v es) x in
+      cond_both (ltb k e.0) _ _ (λ l. Has l x ↔ (((k, v) ≡ x) ⊎ Has (e ∷ es) x))
+      (λ _. has_cons (k, v) (e ∷ es) x)
+      (λ _. (
+        λ h. ⊎_elim (λ q. inr (old.1 (inl q))) (λ m. ⊎_elim (λ q. inl q) (λ n. inr (old.1 (inr n))) (ih.0 m)) (new.0 h),
+        λ h. new.1 (⊎_elim (λ q. inr (ih.1 (inl q))) (λ m. ⊎_elim (λ q. inl q) (λ n. inr (ih.1 (inr n))) (old.0 m)) h),
+      ))
 
   pub length_inserted : (k : ℕ) (v : V) (es : List (ℕ × V)) → length (inserted k v es) ≡ length es + 1
   length_inserted k v [] = refl
@@ -113,37 +98,30 @@ module _ {V : Type 0} where
       let z = removed_strict k es s.1 in
       cond_both (eqb e.0 k) _ _ Strict (λ _. s.1) (λ _. (all_removed (λ x. e.0 < x.0) k es s.0, z))
 
-  mem_removed : (k : ℕ) (es : List (ℕ × V)) (x : ℕ × V) → Strict es → Mem x (removed k es) ↔ (Mem x es × (x.0 ≡ k → ⊥))
-  mem_removed k [] x s = (λ m. absurd m, λ m. absurd m.0)
-  mem_removed k (e ∷ es) x s =
-      let ih = mem_removed k es x s.1 in
-      cond_both (eqb e.0 k) _ _ (λ l. Mem x l ↔ (Mem x (e ∷ es) × (x.0 ≡ k → ⊥))) (λ t. (here t, (λ m. back t m.0 m.1))) (λ t. (to ih t, (λ m. from ih m.0 m.1)))
+  has_removed_strict : (k : ℕ) (es : List (ℕ × V)) (x : ℕ × V) → Strict es → Has (removed k es) x ↔ (Has es x × (x.0 ≡ k → ⊥))
+  has_removed_strict k [] x s = (λ h. let l = h.1 in absurd (omega arith), λ h. h.0)
+  has_removed_strict k (e ∷ es) x s = cond_both (eqb e.0 k) _ _ (λ l. Has l x ↔ (Has (e ∷ es) x × (x.0 ≡ k → ⊥))) here (later (has_removed_strict k es x s.1))
     where
-      IH : Type 0
-      IH = Mem x (removed k es) ↔ (Mem x es × (x.0 ≡ k → ⊥))
+      here : eqb e.0 k ≡ true → Has es x ↔ (Has (e ∷ es) x × (x.0 ≡ k → ⊥))
+      here t =
+          let q = eqb-true e.0 k t in (
+            λ m. let l = all-has (λ y. e.0 < y.0) es x s.0 m in ((has_cons e es x).1 (inr m), λ r. omega arith),
+            λ h. ⊎_elim (λ (r : e ≡ x). absurd (h.1 (sym (ap (λ y. y.0) r) ∙ q))) (λ (m : Has es x). m) ((has_cons e es x).0 h.0),
+          )
 
-      here : eqb e.0 k ≡ true → Mem x es → Mem x (e ∷ es) × (x.0 ≡ k → ⊥)
-      here t m = let q = eqb-true e.0 k t in let l = all_mem (λ y. e.0 < y.0) es x s.0 m in (inr m, λ r. omega arith)
-
-      back : eqb e.0 k ≡ true → Mem x (e ∷ es) → (x.0 ≡ k → ⊥) → Mem x es
-      back t (inl q) ne = absurd (ne (sym (ap (λ y. y.0) q) ∙ eqb-true e.0 k t))
-      back t (inr m) ne = m
-
-      to : IH → eqb e.0 k ≡ false → Mem x (e ∷ removed k es) → Mem x (e ∷ es) × (x.0 ≡ k → ⊥)
-      to ih t (inl q) = (inl q, λ r. eqb-false e.0 k t (ap (λ y. y.0) q ∙ r))
-      to ih t (inr m) = let w = ih.0 m in (inr w.0, w.1)
-
-      from : IH → Mem x (e ∷ es) → (x.0 ≡ k → ⊥) → Mem x (e ∷ removed k es)
-      from ih (inl q) ne = inl q
-      from ih (inr m) ne = inr (ih.1 (m, ne))
+      later : Has (removed k es) x ↔ (Has es x × (x.0 ≡ k → ⊥)) → eqb e.0 k ≡ false → Has (e ∷ removed k es) x ↔ (Has (e ∷ es) x × (x.0 ≡ k → ⊥))
+      later ih t =
+          let old = has_cons e es x in
+          let new = has_cons e (removed k es) x in (
+            λ h. ⊎_elim (λ (q : e ≡ x). (old.1 (inl q), λ r. eqb-false e.0 k t (ap (λ y. y.0) q ∙ r))) (λ (m : Has (removed k es) x). (old.1 (inr (ih.0 m).0), (ih.0 m).1)) (new.0 h),
+            λ h. new.1 (⊎_elim (λ q. inl q) (λ m. inr (ih.1 (m, h.1))) (old.0 h.0)),
+          )
 
   pub removed_ascends : (k : ℕ) (es : List (ℕ × V)) → ascending es ≡ true → ascending (removed k es) ≡ true
   removed_ascends k es s = ascends (removed k es) (removed_strict k es (strict es s))
 
   pub has_removed : (k : ℕ) (es : List (ℕ × V)) (x : ℕ × V) → ascending es ≡ true → Has (removed k es) x ↔ (Has es x × (x.0 ≡ k → ⊥))
-  has_removed k es x s =
-      let w = mem_removed k es x (strict es s) in
-      by_mem (removed k es) x (λ m. let u = w.0 m in (mem_has es x u.0, u.1), λ h. w.1 (has_mem es x h.0, h.1))
+  has_removed k es x s = has_removed_strict k es x (strict es s)
 
   pub length_removed : (k : ℕ) (es : List (ℕ × V)) → held k es ≡ true → length (removed k es) + 1 ≡ length es
   length_removed k [] h = absurd (false≢true h)
