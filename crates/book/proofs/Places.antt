@@ -14,7 +14,7 @@ module _ {V : Type 0} where
       let one : ◌≡◌ {A = ℕ} (cond (ltb e.0 k) 1 0) 1 = cond-true (ltb e.0 k) 1 0 (lt-ltb e.0 k h) in
       omega (arith, sum_by-cons (λ x. cond (ltb x.0 k) 1 0) e es)
 
-  below_no_more : (k : ℕ) (e : ℕ × V) (es : List (ℕ × V)) → k ≤ e.0 → count_below k (e ∷ es) ≡ count_below k es
+  pub below_no_more : (k : ℕ) (e : ℕ × V) (es : List (ℕ × V)) → k ≤ e.0 → count_below k (e ∷ es) ≡ count_below k es
   below_no_more k e es h =
       let none : ◌≡◌ {A = ℕ} (cond (ltb e.0 k) 1 0) 0 = cond-false (ltb e.0 k) 1 0 (le-ltb e.0 k h) in
       omega (arith, sum_by-cons (λ x. cond (ltb x.0 k) 1 0) e es)
