@@ -48,7 +48,7 @@ module _ {P V : Type 0} (unit : V) (join : V → V → V) (reads : P → V) (es 
   pub fold_part : from < to → total unit join (map (λ e. reads e.value) (take (to - from) (drop from es))) ≡ fold_between unit join lo hi (pairs reads es)
   unfolding whole
   fold_part h =
-      let order : lo ≤ hi = ⊎_elim (λ (l : hi < lo). absurd (omega (arith, below_mono hi lo whole (strict whole rising) (omega arith)))) (λ (l : lo ≤ hi). l) (cases_lt hi lo) in
+      let order : lo ≤ hi = ⊎_elim (λ (l : hi < lo). absurd (omega (arith, below_mono hi lo whole (omega arith)))) (λ (l : lo ≤ hi). l) (cases_lt hi lo) in
       let stretch : between lo hi whole ≡ take (to - from) (drop from whole) = between_is lo hi whole rising order ∙ ap (λ j. take (count_below hi whole - j) (drop j whole)) (sym start) ∙ ap (λ j. take (j - from) (drop from whole)) (sym end) in
       let part : take (to - from) (drop from whole) ≡ pairs reads (take (to - from) (drop from es)) = ap (take (to - from)) (drop-map (pair reads) from es) ∙ take-map (pair reads) (to - from) (drop from es) in
       sym (ap (λ l. total unit join (values l)) (stretch ∙ part) ∙ ap (total unit join) (values_are reads (take (to - from) (drop from es))))

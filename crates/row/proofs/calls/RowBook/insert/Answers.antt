@@ -1,7 +1,7 @@
 use Rattle.std.proofs.Common.{◌≡◌, ◌+◌, ◌<◌, length, take, sym, refl, ap, ◌∙◌, arith}
 use Rattle.std.specs.Vec.{with_items}
 use Rattle.book.specs.Entries.{ascending, inserted}
-use Rattle.book.proofs.Calls.{insert_held, insert_full, insert_done}
+use Rattle.book.proofs.Calls.{insert_held, insert_done}
 use Rattle.book.proofs.Edits.{inserted_ascends}
 use Rattle.row.specs.Slots.{stored}
 use Rattle.row.specs.Rows.{row_entries, row_capacity}
@@ -14,14 +14,6 @@ returns-in_default g c =
     let reads = g.M.Monoid.reads in
     let row = c.args.self.now in
     let r = insert_held c.args.key c.args.value (row_entries reads row) (row_capacity row) (stands_held reads row c.args.key c.in_default.field-0 c.in_default.ensures) in
-    record { answer = r.0; after = r.1; kept = refl; sums = λ s. s }
-
-pub returns-then-count-room : goal.returns-then-count-room
-returns-then-count-room g c =
-    let reads = g.M.Monoid.reads in
-    let row = c.args.self.now in
-    let full : length (row_entries reads row) ≡ row_capacity row = count_is reads row ∙ c.if-count-room.true ∙ c.room.ensures in
-    let r = insert_full c.args.key c.args.value (row_entries reads row) (row_capacity row) c.in-Err.ensures.absent full in
     record { answer = r.0; after = r.1; kept = refl; sums = λ s. s }
 
 pub invariant_of-self : goal.invariant_of-self
@@ -37,8 +29,8 @@ invariant_of-self g c =
     let up = ap ascending put ∙ inserted_ascends k (reads c.plain.result) (row_entries reads row) (is_rising reads row) at.absent in
     record { within = omega arith; small = omega arith; rising = same_order stored reads (take (row.count + 1) (with_items row.memory last).items) ∙ up }
 
-pub returns : goal.returns
-returns g c =
+pub returns-clause-after : goal.returns-clause-after
+returns-clause-after g c =
     let reads = g.M.Monoid.reads in
     let row = c.args.self.now in
     let k = c.args.key in
@@ -47,5 +39,4 @@ returns g c =
     let size : length c.put_in.new.memory ≡ row.memory.len = omega (arith, c.put_in.auto.memory, c.deref_mut.ensures.len) in
     let put = entries_put reads row k c.in-Err.place c.deref_mut.result.now c.put_in.new.memory c.deref_mut.ensures.value size record { key = k; value = c.plain.result } refl at c.put_in.ensures in
     let value : reads c.plain.result ≡ c.args.value = ap reads c.plain.ensures ∙ g.met.M.Monoid.back c.args.value in
-    let r = insert_done k c.args.value es (row_capacity row) at.absent (λ full. c.if-count-room.false (sym (count_is reads row) ∙ full ∙ sym c.room.ensures)) in
-    record { answer = r.0; after = put ∙ ap (λ v. inserted k v es) value ∙ r.1; kept = refl; sums = λ s. s }
+    put ∙ ap (λ v. inserted k v es) value ∙ insert_done k c.args.value es (row_capacity row) at.absent (λ full. c.if-count-room.false (sym (count_is reads row) ∙ full ∙ sym c.room.ensures))
