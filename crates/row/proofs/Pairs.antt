@@ -1,9 +1,11 @@
 -- The entries that a row's records mean, under edits and questions at places.
-use Rattle.std.proofs.Common.{◌≡◌, ℕ, zero, suc, ◌+◌, ◌-◌, ◌<◌, ◌≤◌, true, ◌||◌, eqb, List, [], ◌∷◌, ◌++◌, map, length, get_or, take, drop, Some, vec_items, sym, refl, ap, ◌∙◌, ⊎_elim, arith}
+use Rattle.std.proofs.Common.{◌≡◌, ℕ, zero, suc, ◌+◌, ◌-◌, ◌<◌, ◌≤◌, true, List, [], ◌∷◌, map, length, get_or, take, drop, Some, vec_items, sym, ap, ◌∙◌, ⊎_elim, arith}
 use Rattle.std.specs.List.{insert as put_in, remove as taken_out}
 use Rattle.std.specs.Vec.{with_items}
 use Rattle.std.proofs.lemmas.List.{map-append, take-map, drop-map, get_or-map, get_or-take, length-map, length-take-le, with_items_is}
-use Rattle.std.proofs.lemmas.Bool.{cases_lt, eq-eqb, or_right}
+use Rattle.std.proofs.lemmas.Simd.{map-map}
+use Rattle.std.proofs.lemmas.Bool.{cases_lt}
+use Rattle.std.proofs.lemmas.Bool.Decides.{nat_tests}
 use Rattle.monoid.specs.declared.Monoid.{Ghosts}
 use Rattle.monoid.specs.Folds.{total}
 use Rattle.book.specs.Entries.{ascending, held, value_of, inserted, removed, count_below, between, values, fold_between}
@@ -17,27 +19,17 @@ use Rattle.row.specs.Rows.{row_entries, Stands, Belongs}
 use Rattle.row.specs.Invariant.{is_rising}
 
 module _ {P V : Type 0} (reads : P → V) where
-  values_are : (es : List (Entry P)) → values (pairs reads es) ≡ map (λ e. reads e.value) es
-  values_are [] = refl
-  values_are (e ∷ es) = ap (λ l. reads e.value ∷ l) (values_are es)
-
   held_there : (k : ℕ) (es : List (Entry P)) (i : ℕ) → i < length es → ((d : Entry P) → (get_or es i d).key ≡ k) → held k (pairs reads es) ≡ true
   held_there k [] i h here = absurd (omega arith)
-  held_there k (e ∷ es) zero h here = ap (λ b. b || held k (pairs reads es)) (eq-eqb e.key k (here e))
-  held_there k (e ∷ es) (suc i) h here = or_right (eqb e.key k) (held k (pairs reads es)) (held_there k es i (omega arith) here)
+  held_there k (e ∷ es) zero h here = grind (arith, nat_tests, here e)
+  held_there k (e ∷ es) (suc i) h here = grind (arith, nat_tests, held_there k es i (omega arith) here)
 
   -- the records with one more, and with one less
   pairs_put : (es : List (Entry P)) (i : ℕ) (x : Entry P) → pairs reads (put_in es i x) ≡ put_in (pairs reads es) i (pair reads x)
-  pairs_put es i x =
-      map-append (pair reads) (take i es) (x ∷ drop i es)
-      ∙ ap (λ l. l ++ (pair reads x ∷ map (pair reads) (drop i es))) (sym (take-map (pair reads) i es))
-      ∙ ap (λ l. take i (pairs reads es) ++ (pair reads x ∷ l)) (sym (drop-map (pair reads) i es))
+  pairs_put es i x = rw (take-map (pair reads) i es, drop-map (pair reads) i es) (map-append (pair reads) (take i es) (x ∷ drop i es))
 
   pairs_taken : (es : List (Entry P)) (i : ℕ) → pairs reads (taken_out es i) ≡ taken_out (pairs reads es) i
-  pairs_taken es i =
-      map-append (pair reads) (take i es) (drop (suc i) es)
-      ∙ ap (λ l. l ++ map (pair reads) (drop (suc i) es)) (sym (take-map (pair reads) i es))
-      ∙ ap (λ l. take i (pairs reads es) ++ l) (sym (drop-map (pair reads) (suc i) es))
+  pairs_taken es i = rw (take-map (pair reads) i es, drop-map (pair reads) (suc i) es) (map-append (pair reads) (take i es) (drop (suc i) es))
 
 -- a stretch of places, from the first that is not below lo to the first that is not below hi
 module _ {P V : Type 0} (unit : V) (join : V → V → V) (reads : P → V) (es : List (Entry P)) (lo hi from to : ℕ) (rising : ascending (pairs reads es) ≡ true) (start : from ≡ count_below lo (pairs reads es)) (end : to ≡ count_below hi (pairs reads es)) where
@@ -49,18 +41,17 @@ module _ {P V : Type 0} (unit : V) (join : V → V → V) (reads : P → V) (es 
   unfolding whole
   fold_part h =
       let order : lo ≤ hi = ⊎_elim (λ (l : hi < lo). absurd (omega (arith, below_mono hi lo whole (omega arith)))) (λ (l : lo ≤ hi). l) (cases_lt hi lo) in
-      let stretch : between lo hi whole ≡ take (to - from) (drop from whole) = between_is lo hi whole rising order ∙ ap (λ j. take (count_below hi whole - j) (drop j whole)) (sym start) ∙ ap (λ j. take (j - from) (drop from whole)) (sym end) in
-      let part : take (to - from) (drop from whole) ≡ pairs reads (take (to - from) (drop from es)) = ap (take (to - from)) (drop-map (pair reads) from es) ∙ take-map (pair reads) (to - from) (drop from es) in
-      sym (ap (λ l. total unit join (values l)) (stretch ∙ part) ∙ ap (total unit join) (values_are reads (take (to - from) (drop from es))))
+      let stretch : between lo hi whole ≡ take (to - from) (drop from whole) = rw (start, end) (between_is lo hi whole rising order) in
+      let part : take (to - from) (drop from whole) ≡ pairs reads (take (to - from) (drop from es)) = rw (drop-map (pair reads) from es) (take-map (pair reads) (to - from) (drop from es)) in
+      sym (ap (λ l. total unit join (values l)) (stretch ∙ part) ∙ ap (total unit join) (map-map (λ p. p.1) (pair reads) (take (to - from) (drop from es))))
 
   pub fold_none : to ≤ from → unit ≡ fold_between unit join lo hi (pairs reads es)
   unfolding whole
   fold_none h =
+      let empty : to - from ≡ 0 = omega arith in
       let none : between lo hi whole ≡ [] = ⊎_elim
       (λ (l : hi < lo). between_empty lo hi whole (omega arith))
-      (λ (l : lo ≤ hi).
-      let n : count_below hi whole - count_below lo whole ≡ 0 = omega arith in
-      between_is lo hi whole rising l ∙ ap (λ j. take j (drop (count_below lo whole) whole)) n)
+      (λ (l : lo ≤ hi). rw (← start, ← end) at (between_is lo hi whole rising l) ∙ ap (λ n. take n (drop from whole)) empty)
       (cases_lt hi lo) in
       sym (ap (λ l. total unit join (values l)) none)
 

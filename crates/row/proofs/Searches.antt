@@ -1,8 +1,8 @@
 -- What a binary search finds among records in rising key.
-use Rattle.std.proofs.Common.{◌≡◌, ℕ, zero, suc, ◌+◌, ◌<◌, ◌≤◌, true, false, ◌||◌, List, [], ◌∷◌, length, get_or, take, Result, Ok, Err, MatchResult, vec_items, sym, refl, ap, ◌∙◌, ⊎_elim, arith}
+use Rattle.std.proofs.Common.{◌≡◌, ℕ, zero, suc, ◌+◌, ◌<◌, ◌≤◌, true, false, List, [], ◌∷◌, length, get_or, take, Result, Ok, Err, MatchResult, vec_items, sym, refl, ap, ◌∙◌, ⊎_elim, arith}
 use Rattle.std.specs.List.Sorted.{IsSearchInRange, IsBinarySearchResult, IsNonDecreasingBy}
 use Rattle.std.specs.Ordering.{nat_cmp, ordering_index}
-use Rattle.std.proofs.lemmas.Bool.{cases_lt, ltb-true, and_parts, ne_eqb}
+use Rattle.std.proofs.lemmas.Bool.{cases_lt, ltb-true, and_parts}
 use Rattle.std.proofs.lemmas.Cmp.{ranked}
 use Rattle.std.proofs.lemmas.List.{length-take-le, get_or-take}
 use Rattle.std.proofs.lemmas.Bool.Decides.{nat_tests}
@@ -37,7 +37,7 @@ module _ {P V : Type 0} (reads : P → V) where
 
   pub held_nowhere : (k : ℕ) (es : List (Entry P)) → ((j : ℕ) (d : Entry P) → j < length es → (get_or es j d).key ≡ k → ⊥) → held k (pairs reads es) ≡ false
   held_nowhere k [] none = refl
-  held_nowhere k (e ∷ es) none = ap (λ b. b || held k (pairs reads es)) (ne_eqb e.key k (none 0 e (omega arith))) ∙ held_nowhere k es (λ j d h. none (suc j) d (omega arith))
+  held_nowhere k (e ∷ es) none = grind (arith, nat_tests, none 0 e (omega arith), held_nowhere k es (λ j d h. none (suc j) d (omega arith)))
 
   -- the comparisons with k rise with the keys
   comparisons_rise : (k : ℕ) (es : List (Entry P)) → ascending (pairs reads es) ≡ true → IsNonDecreasingBy (λ e. ordering_index (nat_cmp e.key k)) es
