@@ -158,12 +158,14 @@ mod tests {
     fn united(rt: HostRuntime) {
         assert!(rt; fold::<Fittings>(&[2, 8, 12]) == Fittings(14));
         assert!(rt; fold::<Fittings>(&[]) == Fittings(0));
+        let some = [Fittings(2), Fittings(8), Fittings(12)];
+        assert!(rt; join_all(some.iter().copied()) == Fittings(14));
     }
 
     #[test]
     fn seams(rt: HostRuntime) {
-        let out = Stretch::of_run(0, 10, 1, 20);
-        let home = Stretch::of_run(1, 20, 0, 35);
+        let out = Some(Stretch::of_run(0, 10, 1, 20));
+        let home = Some(Stretch::of_run(1, 20, 0, 35));
         let both = Stretch {
             first: Stop {
                 vault: 0,
@@ -175,9 +177,9 @@ mod tests {
             },
             sound: true,
         };
-        assert!(rt; fold::<Seam>(&[Some(out), Some(home)]) == Some(both));
-        let early = Stretch::of_run(1, 19, 0, 35);
-        let elsewhere = Stretch::of_run(2, 20, 0, 35);
+        assert!(rt; fold::<Seam>(&[out, home]) == Some(both));
+        let early = Some(Stretch::of_run(1, 19, 0, 35));
+        let elsewhere = Some(Stretch::of_run(2, 20, 0, 35));
         let broken = Stretch {
             first: both.first,
             last: both.last,
