@@ -1,10 +1,21 @@
 -- Strictly rising lists of entries, and that their members fix them.
-use Rattle.std.proofs.Common.{◌≡◌, ℕ, ◌<◌, ◌≤◌, true, ◌↔◌, List, [], ◌∷◌, sym, refl, ap, ◌∙◌, inl, inr, arith}
+use Rattle.std.proofs.Common.{◌≡◌, ℕ, zero, suc, ◌<◌, ◌≤◌, true, ◌⊎◌, ◌↔◌, List, [], ◌∷◌, sym, refl, ap, ◌∙◌, inl, inr, ⊎_elim, arith}
 use Rattle.std.specs.List.{ContainsAt as Has, AllByRecursion as All}
-use Rattle.std.proofs.ByRecursion.{All-weaker}
+use Rattle.std.proofs.ByRecursion.{All-weaker, all-has, has_append_right}
 use Rattle.std.proofs.lemmas.Bool.{ltb-true, lt-ltb, and_parts, and_from}
 use Rattle.book.specs.Entries.{above, ascending}
-use Rattle.book.proofs.Members.{Mem, has_mem, mem_has, all_mem}
+
+-- what a list has is its first element, or the rest has it
+pub has_cons : {X : Type 0} (y : X) (ys : List X) (x : X) → Has (y ∷ ys) x ↔ ((y ≡ x) ⊎ Has ys x)
+has_cons {X} y ys x = (to, from)
+  where
+    to : Has (y ∷ ys) x → (y ≡ x) ⊎ Has ys x
+    to (zero, l, at) = inl (at x)
+    to (suc k, l, at) = inr (k, omega arith, at)
+
+    from : (y ≡ x) ⊎ Has ys x → Has (y ∷ ys) x
+    from (inl e) = (0, omega arith, λ d. e)
+    from (inr h) = has_append_right (y ∷ []) ys x h
 
 module _ {V : Type 0} where
   -- every key is greater than k
@@ -38,33 +49,30 @@ module _ {V : Type 0} where
       go [] a = refl
       go (z ∷ zs) a = lt-ltb e.0 z.0 a.0
 
-  same_mem : (xs ys : List (ℕ × V)) → Strict xs → Strict ys → ((e : ℕ × V) → Mem e xs → Mem e ys) → ((e : ℕ × V) → Mem e ys → Mem e xs) → xs ≡ ys
-  same_mem [] [] s t to from = refl
-  same_mem [] (y ∷ ys) s t to from = absurd (from y (inl refl))
-  same_mem (x ∷ xs) [] s t to from = absurd (to x (inl refl))
-  same_mem (x ∷ xs) (y ∷ ys) s t to from = λ i. heads i ∷ same_mem xs ys s.1 t.1 to' from' i
+  same_has : (xs ys : List (ℕ × V)) → Strict xs → Strict ys → ((e : ℕ × V) → Has xs e → Has ys e) → ((e : ℕ × V) → Has ys e → Has xs e) → xs ≡ ys
+  same_has [] [] s t to from = refl
+  same_has [] (y ∷ ys) s t to from = let l = (from y ((has_cons y ys y).1 (inl refl))).1 in absurd (omega arith)
+  same_has (x ∷ xs) [] s t to from = let l = (to x ((has_cons x xs x).1 (inl refl))).1 in absurd (omega arith)
+  same_has (x ∷ xs) (y ∷ ys) s t to from = λ i. heads i ∷ same_has xs ys s.1 t.1 to' from' i
     where
-      go : Mem x (y ∷ ys) → Mem y (x ∷ xs) → x ≡ y
+      go : (y ≡ x) ⊎ Has ys x → (x ≡ y) ⊎ Has xs y → x ≡ y
       go (inl e) m = sym e
       go (inr n) (inl e) = e
-      go (inr n) (inr m) = absurd (omega (arith, all_mem (λ z. x.0 < z.0) xs y s.0 m, all_mem (λ z. y.0 < z.0) ys x t.0 n))
+      go (inr n) (inr m) = absurd (omega (arith, all-has (λ z. x.0 < z.0) xs y s.0 m, all-has (λ z. y.0 < z.0) ys x t.0 n))
 
       heads : x ≡ y
-      heads = go (to x (inl refl)) (from y (inl refl))
+      heads = go ((has_cons y ys x).0 (to x ((has_cons x xs x).1 (inl refl)))) ((has_cons x xs y).0 (from y ((has_cons y ys y).1 (inl refl))))
 
-      next : {z : ℕ × V} (a b : ℕ × V) (us vs : List (ℕ × V)) → Above a.0 us → a ≡ b → Mem z us → Mem z (b ∷ vs) → Mem z vs
-      next {z} a b us vs up same m (inl e) = absurd (omega (arith, all_mem (λ w. a.0 < w.0) us z up m, ap (λ w. w.0) (same ∙ e)))
-      next a b us vs up same m (inr n) = n
+      next : {z : ℕ × V} (a b : ℕ × V) (us vs : List (ℕ × V)) → Above a.0 us → a ≡ b → Has us z → Has (b ∷ vs) z → Has vs z
+      next {z} a b us vs up same m h =
+          ⊎_elim (λ (e : b ≡ z). absurd (omega (arith, all-has (λ w. a.0 < w.0) us z up m, ap (λ w. w.0) (same ∙ e)))) (λ (n : Has vs z). n) ((has_cons b vs z).0 h)
 
-      to' : (e : ℕ × V) → Mem e xs → Mem e ys
-      to' e m = next x y xs ys s.0 heads m (to e (inr m))
+      to' : (e : ℕ × V) → Has xs e → Has ys e
+      to' e m = next x y xs ys s.0 heads m (to e ((has_cons x xs e).1 (inr m)))
 
-      from' : (e : ℕ × V) → Mem e ys → Mem e xs
-      from' e m = next y x ys xs t.0 (sym heads) m (from e (inr m))
+      from' : (e : ℕ × V) → Has ys e → Has xs e
+      from' e m = next y x ys xs t.0 (sym heads) m (from e ((has_cons y ys e).1 (inr m)))
 
   -- two rising lists with the same members are equal
   pub same_members : (xs ys : List (ℕ × V)) → ascending xs ≡ true → ascending ys ≡ true → ((e : ℕ × V) → Has xs e ↔ Has ys e) → xs ≡ ys
-  same_members xs ys s t same =
-      same_mem xs ys (strict xs s) (strict ys t)
-      (λ e m. has_mem ys e ((same e).0 (mem_has xs e m)))
-      (λ e m. has_mem xs e ((same e).1 (mem_has ys e m)))
+  same_members xs ys s t same = same_has xs ys (strict xs s) (strict ys t) (λ e. (same e).0) (λ e. (same e).1)

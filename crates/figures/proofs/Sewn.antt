@@ -1,7 +1,6 @@
 -- The seams of chains, and of first in, first out blocks.
-use Rattle.std.proofs.Common.{◌≡◌, true, List, [], ◌∷◌, map, sym, refl, ap, ◌∙◌}
+use Rattle.std.proofs.Common.{◌≡◌, true, List, [], ◌∷◌, map, None, sym, refl, ap, ◌∙◌}
 use Rattle.monoid.specs.declared.seam.Stretch.{Stretch}
-use Rattle.monoid.specs.declared.seam.Seam.TheVariants.{Nothing}
 use Rattle.monoid.specs.Folds.{total}
 use Rattle.monoid.specs.Seams.{stop, seamed, Leg, of_leg, last_of}
 use Rattle.monoid.specs.Seams.{Chain as LegsChain}
@@ -39,7 +38,7 @@ seams_tell_chains r rs =
     let s = t.2 in (
       x,
       record {
-        fold = ap (total Nothing seamed) (sym (legs_seams (r ∷ rs))) ∙ t.1;
+        fold = ap (total None seamed) (sym (legs_seams (r ∷ rs))) ∙ t.1;
         first = λ q e. s.first ∙ ap (λ (y : Run). stop y.from y.start) e;
         last = λ q e. s.last ∙ ap (λ (y : Leg). stop y.to y.end) (last_is r rs q e);
       },

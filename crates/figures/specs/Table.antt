@@ -2,7 +2,6 @@
 use Rattle.std.specs.Prelude.{◌≡◌, ℕ, true, List, [], ◌∷◌, map, ℤ, pos, neg_ℤ, Some, None}
 use Rattle.monoid.specs.declared.summary.DeficitSummary.{DeficitSummary}
 use Rattle.monoid.specs.declared.fittings.Fittings.{Fittings}
-use Rattle.monoid.specs.declared.seam.Seam.TheVariants.{Over}
 use Rattle.monoid.specs.Deficits.{four, numbers, join}
 use Rattle.monoid.specs.Steps.{departs, arrives, of_step}
 use Rattle.monoid.specs.Seams.{stop}
@@ -47,5 +46,5 @@ pub record WholeTable : Type 0 where
   pub leaving_read : fittings_read departures_of_five 0 100 120 ≡ 3
   pub coming_read : fittings_read arrivals_of_five 0 200 230 ≡ 5
   -- the seams of the two blocks, sound
-  pub seam_of_box_1 : seam_of (run_1 ∷ run_4 ∷ []) ≡ Over (record { first = stop 0 100; last = stop 0 230; sound = true })
-  pub seam_of_box_2 : seam_of (run_2 ∷ run_3 ∷ run_5 ∷ []) ≡ Over (record { first = stop 0 120; last = stop 0 260; sound = true })
+  pub seam_of_box_1 : seam_of (run_1 ∷ run_4 ∷ []) ≡ Some (record { first = stop 0 100; last = stop 0 230; sound = true })
+  pub seam_of_box_2 : seam_of (run_2 ∷ run_3 ∷ run_5 ∷ []) ≡ Some (record { first = stop 0 120; last = stop 0 260; sound = true })

@@ -1,20 +1,19 @@
 -- The fold of runs.
-use Rattle.std.proofs.Common.{◌≡◌, Bool, true, ◌&&◌, eqb, leb, List, [], ◌∷◌, map, sym, refl, ap, ◌∙◌}
+use Rattle.std.proofs.Common.{◌≡◌, Bool, true, ◌&&◌, eqb, leb, List, [], ◌∷◌, map, Some, None, sym, refl, ap, ◌∙◌}
 use Rattle.std.proofs.lemmas.Bool.{and_parts, and_from, eqb-true, leb-true, eq-eqb, le-leb}
 use Rattle.monoid.specs.declared.seam.Stop.{Stop}
 use Rattle.monoid.specs.declared.seam.Stretch.{Stretch}
-use Rattle.monoid.specs.declared.seam.Seam.{Seam}
-use Rattle.monoid.specs.declared.seam.Seam.TheVariants.{Nothing, Over}
 use Rattle.monoid.specs.Folds.{total}
-use Rattle.monoid.specs.Seams.{stop, seamed, Leg, of_leg, Sews}
+use Rattle.monoid.specs.Seams.{stop, end_to_end, Seam, seamed, Leg, of_leg, Sews}
 use Rattle.monoid.specs.Laws.{RunsSeamed}
 use Rattle.monoid.specs.FoldsLemmas.{total_cons}
-use Rattle.monoid.specs.SeamsLemmas.{left, right, assoc}
+use Rattle.monoid.specs.SemigroupsLemmas as Semigroups
+use Rattle.monoid.specs.SeamsLemmas.{assoc}
 
 abbrev seam_of : List Leg → Seam
-seam_of legs = total Nothing seamed (map of_leg legs)
+seam_of legs = total None seamed (map of_leg legs)
 
-sewn : (r : Leg) (rest : List Leg) → (x : Stretch) × (seam_of (r ∷ rest) ≡ Over x) × Sews r rest x
+sewn : (r : Leg) (rest : List Leg) → (x : Stretch) × (seam_of (r ∷ rest) ≡ Some x) × Sews r rest x
 sewn r [] = (record { first = stop r.from r.start; last = stop r.to r.end; sound = true }, refl, record { first = refl; last = refl; sound = (λ _. tt, λ _. refl) })
 sewn r (s ∷ rest) =
     let more = sewn s rest in
@@ -25,7 +24,7 @@ sewn r (s ∷ rest) =
     let from : x.first.vault ≡ s.from = ap (λ (p : Stop). p.vault) h.first in
     let start : x.first.minute ≡ s.start = ap (λ (p : Stop). p.minute) h.first in (
       record { first = stop r.from r.start; last = x.last; sound = x.sound && (meet && timely) },
-      total_cons Nothing seamed left right assoc (of_leg r) (map of_leg (s ∷ rest)) ∙ ap (seamed (of_leg r)) more.1,
+      total_cons None seamed (Semigroups.left end_to_end) (Semigroups.right end_to_end) (Semigroups.assoc end_to_end assoc) (of_leg r) (map of_leg (s ∷ rest)) ∙ ap (seamed (of_leg r)) more.1,
       record {
         first = refl;
         last = h.last;

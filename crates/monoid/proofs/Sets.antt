@@ -1,9 +1,9 @@
 -- Unions of bits.
-use Rattle.std.specs.Prelude.{◌≡◌, ℕ, zero, suc, ◌/◌, ◌%◌, ◌^◌, ◌<◌, max, ◌⊎◌, List, [], ◌∷◌, map, length, bit_or, slice_index, refl}
+use Rattle.std.specs.Prelude.{◌≡◌, ℕ, zero, suc, ◌<◌, ◌⊎◌, List, [], ◌∷◌, map, length, bit_or, slice_index}
 use Rattle.std.proofs.Common.{ap, inl, inr, ⊎_elim, arith}
-use Rattle.std.proofs.Math.Nat.{zero-div}
-use Rattle.std.specs.Int.Bits.{or_step}
-use Rattle.std.proofs.lemmas.Nat.{or_shr}
+use Rattle.std.specs.Int.{bit_at}
+use Rattle.std.proofs.lemmas.Bool.{cases_eq}
+use Rattle.std.proofs.lemmas.Nat.Bits.{bit_at-zero, bit_at_or, bit_at-lt}
 use Rattle.monoid.specs.declared.fittings.Fittings.{Fittings}
 use Rattle.monoid.specs.Folds.{total}
 use Rattle.monoid.specs.Sets.{set_of, union, Bit}
@@ -12,30 +12,20 @@ use Rattle.monoid.specs.FoldsLemmas.{total_cons}
 use Rattle.monoid.specs.SetsLemmas.{left, right, assoc}
 
 -- a bit of a union is that of one side
-or_bit : (i a b : ℕ) → bit_or a b / 2 ^ i % 2 ≡ max (a / 2 ^ i % 2) (b / 2 ^ i % 2)
-or_bit i a b = omega (arith, or_shr a b i, or_step (a / 2 ^ i) (b / 2 ^ i))
-
 bit_cases : (i a b : ℕ) → Bit i (bit_or a b) → Bit i a ⊎ Bit i b
-bit_cases i a b h = by (a / 2 ^ i % 2) refl
-  where
-    by : (d : ℕ) → a / 2 ^ i % 2 ≡ d → Bit i a ⊎ Bit i b
-    by zero e = inr (omega (arith, or_bit i a b))
-    by (suc d) e = inl (omega arith)
+bit_cases i a b h = ⊎_elim (λ here. inl here) (λ no. inr (omega (arith, no, bit_at_or a b i, bit_at-lt a i))) (cases_eq (bit_at a i) 1)
 
 bit_left : (i a b : ℕ) → Bit i a → Bit i (bit_or a b)
-bit_left i a b h = omega (arith, or_bit i a b)
+bit_left i a b h = omega (arith, bit_at_or a b i, bit_at-lt b i)
 
 bit_right : (i a b : ℕ) → Bit i b → Bit i (bit_or a b)
-bit_right i a b h = omega (arith, or_bit i a b)
+bit_right i a b h = omega (arith, bit_at_or a b i, bit_at-lt a i)
 
 abbrev union_of : List ℕ → ℕ
 union_of sets = (total (set_of 0) union (map set_of sets)).0
 
 union_of_cons : (s : ℕ) (sets : List ℕ) → union_of (s ∷ sets) ≡ bit_or s (union_of sets)
 union_of_cons s sets = ap (λ (x : Fittings). x.0) (total_cons (set_of 0) union left right assoc (set_of s) (map set_of sets))
-
-none : (i : ℕ) → Bit i 0 → ⊥
-none i h = omega (arith, zero-div (2 ^ i))
 
 united_more : (s : ℕ) (sets : List ℕ) (i : ℕ) → United sets i (union_of sets) → United (s ∷ sets) i (union_of (s ∷ sets))
 united_more s sets i rest = record { some = some; all = all }
@@ -48,7 +38,7 @@ united_more s sets i rest = record { some = some; all = all }
     all (suc k) w h = rw (union_of_cons s sets) (bit_right i s (union_of sets) (rest.all k (omega arith) h))
 
 united : (sets : List ℕ) (i : ℕ) → United sets i (union_of sets)
-united [] i = record { some = λ h. absurd (none i h); all = λ k w h. absurd (omega arith) }
+united [] i = record { some = λ h. absurd (omega (arith, bit_at-zero i)); all = λ k w h. absurd (omega arith) }
 united (s ∷ sets) i = united_more s sets i (united sets i)
 
 pub bits_united : BitsUnited

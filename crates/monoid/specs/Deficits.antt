@@ -1,8 +1,8 @@
 -- Deficit summaries: their numbers, their join, and how a plain record reads.
-use Rattle.std.specs.Prelude.{◌≡◌, ℕ, ◌+◌, ◌≤◌, Bool, true, false, cond, ◌&&◌, ℤ, pos, negsuc, ◌+ℤ◌, neg_ℤ, ◌≤ℤ◌, ◌==◌, int_le, nat_eq, nat_le, nat_lt, unsigned_abs, refl}
-use Rattle.std.proofs.Common.{ap, arith, ltb-false, leb-true, eqb-true, eq-eqb}
+use Rattle.std.specs.Prelude.{◌≡◌, ℕ, ◌+◌, ◌≤◌, Bool, true, false, cond, ◌&&◌, ℤ, pos, negsuc, ◌+ℤ◌, neg_ℤ, ◌≤ℤ◌, ◌==◌, int_le, nat_le, nat_lt, unsigned_abs, refl}
+use Rattle.std.proofs.Common.{arith, ltb-false}
 use Rattle.std.proofs.lemmas.Int.{ints}
-use Rattle.std.proofs.lemmas.Bool.{and_parts, false≢true}
+use Rattle.std.proofs.lemmas.Bool.Decides.{nat_tests}
 use Rattle.monoid.specs.declared.summary.DeficitSummary.{DeficitSummary}
 use Rattle.monoid.specs.declared.summary.DeficitPlain.{DeficitPlain}
 
@@ -99,39 +99,16 @@ bounded a = nat_le a.count 65536 && (nat_le a.peak a.count && (nat_le a.place a.
 abbrev pub consistent : DeficitPlain → Bool
 consistent a = bounded a && (implies (a.peak == 0) (a.place == 0) && implies (a.count == 65536) (is_zero a.sum && (a.peak == 0 && a.place == 0)))
 
-is_zero_tells : (z : ℤ) → is_zero z ≡ true → z ≡ pos 0
-is_zero_tells (pos n) e = ap pos (eqb-true n 0 e)
-is_zero_tells (negsuc n) e = absurd (false≢true e)
-
-implied : (x y : Bool) → implies x y ≡ true → x ≡ true → y ≡ true
-implied true y e h = e
-implied false y e h = absurd (false≢true h)
-
 pub consistent_tells : (a : DeficitPlain) → consistent a ≡ true → Consistent a
-consistent_tells a e =
-    let flat_t : Bool = implies (a.peak == 0) (a.place == 0) in
-    let zeros_t : Bool = a.peak == 0 && nat_eq a.place 0 in
-    let full_t : Bool = implies (a.count == 65536) (is_zero a.sum && zeros_t) in
-    let low_t : Bool = int_le (neg_ℤ (pos a.count)) a.sum in
-    let under_t : Bool = int_le a.sum (pos a.peak) in
-    let p = and_parts (bounded a) (flat_t && full_t) e in
-    let q = and_parts flat_t full_t p.1 in
-    let r = and_parts (nat_le a.count 65536) (nat_le a.peak a.count && (nat_le a.place a.count && (under_t && low_t))) p.0 in
-    let s = and_parts (nat_le a.peak a.count) (nat_le a.place a.count && (under_t && low_t)) r.1 in
-    let t = and_parts (nat_le a.place a.count) (under_t && low_t) s.1 in
-    let u = and_parts under_t low_t t.1 in
-    record {
-      few = leb-true a.count 65536 r.0;
-      high = leb-true a.peak a.count s.0;
-      near = leb-true a.place a.count t.0;
-      under = omega (arith, ints, u.0);
-      low = omega (arith, ints, u.1);
-      flat = λ z. eqb-true a.place 0 (implied (a.peak == 0) (a.place == 0) q.0 (eq-eqb a.peak 0 z));
-      full = λ z.
-          let v = and_parts (is_zero a.sum) zeros_t (implied (a.count == 65536) (is_zero a.sum && zeros_t) q.1 (eq-eqb a.count 65536 z)) in
-          let w = and_parts (a.peak == 0) (a.place == 0) v.1 in
-          (is_zero_tells a.sum v.0, eqb-true a.peak 0 w.0, eqb-true a.place 0 w.1);
-    }
+consistent_tells a e = record {
+  few = grind (arith, nat_tests, ints);
+  low = grind (arith, nat_tests, ints);
+  under = grind (arith, nat_tests, ints);
+  high = grind (arith, nat_tests, ints);
+  near = grind (arith, nat_tests, ints);
+  flat = λ z. grind (arith, nat_tests, ints);
+  full = λ z. (grind (arith, nat_tests, ints), grind (arith, nat_tests, ints), grind (arith, nat_tests, ints));
+}
 
 abbrev pub read_by : (a : DeficitPlain) (t : Bool) → consistent a ≡ t → DeficitSummary
 read_by a true e = summary a (consistent_tells a e)

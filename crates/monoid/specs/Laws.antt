@@ -1,9 +1,8 @@
 -- What the monoids are for.
-use Rattle.std.specs.Prelude.{◌≡◌, ℕ, ◌+◌, ◌<◌, ◌≤◌, List, [], ◌∷◌, map, length, pos, ◌+ℤ◌, ◌≤ℤ◌, ◌<ℤ◌, slice_index}
+use Rattle.std.specs.Prelude.{◌≡◌, ℕ, ◌+◌, ◌<◌, ◌≤◌, List, [], ◌∷◌, map, length, Some, None, pos, ◌+ℤ◌, ◌≤ℤ◌, ◌<ℤ◌, slice_index}
 use Rattle.monoid.specs.declared.summary.DeficitSummary.{DeficitSummary}
 use Rattle.monoid.specs.declared.summary.DeficitPlain.{DeficitPlain}
 use Rattle.monoid.specs.declared.seam.Stretch.{Stretch}
-use Rattle.monoid.specs.declared.seam.Seam.TheVariants.{Nothing, Over}
 use Rattle.monoid.specs.Folds.{total}
 use Rattle.monoid.specs.Deficits.{numbers, overfull, Consistent, none, join, record_read}
 use Rattle.monoid.specs.Steps.{Step, of_step, SumsUp}
@@ -45,5 +44,5 @@ BitsUnited = (sets : List ℕ) (i : ℕ) → i < 16 → United sets i (total (se
 
 -- the fold of no run, and of a first and more
 pub record RunsSeamed : Type 0 where
-  pub nothing : total Nothing seamed (map of_leg []) ≡ Nothing
-  pub runs : (r : Leg) (rest : List Leg) → (x : Stretch) × (total Nothing seamed (map of_leg (r ∷ rest)) ≡ Over x) × Sews r rest x
+  pub nothing : total None seamed (map of_leg []) ≡ None
+  pub runs : (r : Leg) (rest : List Leg) → (x : Stretch) × (total None seamed (map of_leg (r ∷ rest)) ≡ Some x) × Sews r rest x

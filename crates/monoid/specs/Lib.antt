@@ -2,9 +2,11 @@ pub mod Folds
 pub mod Deficits
 pub mod Steps
 pub mod Sets
+pub mod Semigroups
 pub mod Seams
 pub mod Laws
 pub mod DeficitsLemmas
 pub mod SetsLemmas
+pub mod SemigroupsLemmas
 pub mod SeamsLemmas
 pub mod FoldsLemmas

@@ -1,9 +1,8 @@
 -- Seams: their join, and the runs they come from.
-use Rattle.std.specs.Prelude.{◌≡◌, ℕ, ◌≤◌, Bool, true, ◌&&◌, List, [], ◌∷◌, ◌==◌, nat_le}
+use Rattle.std.specs.Prelude.{◌≡◌, ℕ, ◌≤◌, Bool, true, ◌&&◌, List, [], ◌∷◌, Some, Option, ◌==◌, nat_le}
 use Rattle.monoid.specs.declared.seam.Stop.{Stop}
 use Rattle.monoid.specs.declared.seam.Stretch.{Stretch}
-use Rattle.monoid.specs.declared.seam.Seam.{Seam}
-use Rattle.monoid.specs.declared.seam.Seam.TheVariants.{Nothing, Over}
+use Rattle.monoid.specs.Semigroups.{with_unit}
 
 abbrev pub stop : ℕ → ℕ → Stop
 stop v t = record { vault = v; minute = t }
@@ -12,14 +11,20 @@ stop v t = record { vault = v; minute = t }
 abbrev pub meets : Stretch → Stretch → Bool
 meets a b = a.last.vault == b.first.vault && nat_le a.last.minute b.first.minute
 
+-- two stretches as one
+abbrev pub end_to_end : Stretch → Stretch → Stretch
+end_to_end a b = record { first = a.first; last = b.last; sound = a.sound && (b.sound && meets a b) }
+
+-- no run, or the stretch of some
+abbrev pub Seam : Type 0
+Seam = Option Stretch
+
 abbrev pub seamed : Seam → Seam → Seam
-seamed Nothing y = y
-seamed (Over a) Nothing = Over a
-seamed (Over a) (Over b) = Over (record { first = a.first; last = b.last; sound = a.sound && (b.sound && meets a b) })
+seamed = with_unit end_to_end
 
 -- the seam of one run
 abbrev pub of_run : ℕ → ℕ → ℕ → ℕ → Seam
-of_run from start to end = Over (record { first = stop from start; last = stop to end; sound = true })
+of_run from start to end = Some (record { first = stop from start; last = stop to end; sound = true })
 
 -- what a seam takes of a run
 pub record Leg : Type 0 where

@@ -3,16 +3,20 @@
 #![tactic(auto)]
 
 ghost use Rattle.std.specs.Prelude.{◌≡◌, ◌++◌, map};
+ghost use Rattle.std.specs.Iterator.{IsFinite};
+ghost use Rattle.std.specs.Iterator.Runs.{WholeRun};
 ghost use Rattle.monoid.specs.Folds.{total};
 ghost use Rattle.monoid.specs.Laws.{RecordsRead, JoinRules, StepsSummed, StepsOverfull, BitsUnited, RunsSeamed};
 
 mod deficit;
 mod fittings;
 mod seam;
+mod semigroup;
 mod summary;
 
 pub use fittings::Fittings;
 pub use seam::{Seam, Stop, Stretch};
+pub use semigroup::Semigroup;
 pub use summary::{DeficitPlain, DeficitSummary};
 
 /// A value with a unit and an associative join. Memory holds it as a plain record: the one made
@@ -53,15 +57,20 @@ pub trait Monoid: Sized + Copy {
     ghost back: { (x : Self) → reads (written x) ≡ x };
 }
 
+/// The values that an iterator gives, joined from left to right, starting from the unit.
+pub fn join_all<M: Monoid, I: Iterator<Item = M> + Drop>(values: I) -> M
+    requires can { I.can_next values }
+    requires ends { IsFinite (I.remaining values) }
+    ensures runs { WholeRun I.next_gives values (λ p. result ≡ total M.neutral M.joined p.items) }
+{
+    values.fold(M::unit(), |sofar, value| sofar.join(value))
+}
+
 /// The values that the records read as, joined from left to right, starting from the unit.
 pub fn fold<M: Monoid>(records: &[M::Plain]) -> M
     ensures { result ≡ total M.neutral M.joined (map M.reads records.now) }
 {
-    let mut sofar = M::unit();
-    for plain in records {
-        sofar = sofar.join(M::from_plain(*plain));
-    }
-    sofar
+    join_all(records.iter().copied().map(|plain| M::from_plain(plain)))
 }
 
 /// The folds of two stretches, joined: the fold of both, one after the other.
@@ -149,12 +158,14 @@ mod tests {
     fn united(rt: HostRuntime) {
         assert!(rt; fold::<Fittings>(&[2, 8, 12]) == Fittings(14));
         assert!(rt; fold::<Fittings>(&[]) == Fittings(0));
+        let some = [Fittings(2), Fittings(8), Fittings(12)];
+        assert!(rt; join_all(some.iter().copied()) == Fittings(14));
     }
 
     #[test]
     fn seams(rt: HostRuntime) {
-        let out = Seam::of_run(0, 10, 1, 20);
-        let home = Seam::of_run(1, 20, 0, 35);
+        let out = Some(Stretch::of_run(0, 10, 1, 20));
+        let home = Some(Stretch::of_run(1, 20, 0, 35));
         let both = Stretch {
             first: Stop {
                 vault: 0,
@@ -166,16 +177,16 @@ mod tests {
             },
             sound: true,
         };
-        assert!(rt; fold::<Seam>(&[out, home]) == Seam::Over(both));
-        let early = Seam::of_run(1, 19, 0, 35);
-        let elsewhere = Seam::of_run(2, 20, 0, 35);
+        assert!(rt; fold::<Seam>(&[out, home]) == Some(both));
+        let early = Some(Stretch::of_run(1, 19, 0, 35));
+        let elsewhere = Some(Stretch::of_run(2, 20, 0, 35));
         let broken = Stretch {
             first: both.first,
             last: both.last,
             sound: false,
         };
-        assert!(rt; out.join(early) == Seam::Over(broken));
-        assert!(rt; out.join(elsewhere) == Seam::Over(broken));
-        assert!(rt; fold::<Seam>(&[]) == Seam::Nothing);
+        assert!(rt; out.join(early) == Some(broken));
+        assert!(rt; out.join(elsewhere) == Some(broken));
+        assert!(rt; fold::<Seam>(&[]) == None);
     }
 }

@@ -1,11 +1,10 @@
 //! The monoid of seams.
 
-ghost use Rattle.std.specs.Prelude.{◌≡◌};
-ghost use Rattle.monoid.specs.Seams.{seamed, of_run};
-ghost use Rattle.monoid.specs.declared.seam.Seam.TheVariants.{Nothing};
+ghost use Rattle.std.specs.Prelude.{◌≡◌, Some};
+ghost use Rattle.monoid.specs.Seams.{end_to_end, of_run};
 ghost use Rattle.monoid.specs.SeamsLemmas as Seams;
 
-use crate::Monoid;
+use crate::Semigroup;
 
 /// A vault at a minute.
 #[derive(Clone, Copy, PartialEq, Eq)]
@@ -22,21 +21,15 @@ pub struct Stretch {
     pub sound: bool,
 }
 
-/// What runs come to, in their order. Its plain record is the seam itself.
-#[derive(Clone, Copy, PartialEq, Eq)]
-pub enum Seam {
-    /// no run
-    Nothing,
-    /// at least one run
-    Over(Stretch),
-}
+/// What runs come to, in their order: `None` of no run.
+pub type Seam = Option<Stretch>;
 
-impl Seam {
-    /// The seam of one run.
-    pub fn of_run(from: u8, start: u32, to: u8, end: u32) -> Seam
-        ensures { result ≡ of_run from start to end }
+impl Stretch {
+    /// The stretch of one run.
+    pub fn of_run(from: u8, start: u32, to: u8, end: u32) -> Stretch
+        ensures { Some result ≡ of_run from start to end }
     {
-        Seam::Over(Stretch {
+        Stretch {
             first: Stop {
                 vault: from,
                 minute: start,
@@ -46,53 +39,23 @@ impl Seam {
                 minute: end,
             },
             sound: true,
-        })
+        }
     }
 }
 
-impl Monoid for Seam {
-    type Plain = Seam;
-
-    ghost neutral = { Nothing };
-
-    ghost joined = { seamed };
-
-    ghost reads = { λ x. x };
-
-    ghost written = { λ x. x };
-
-    ghost left = { Seams.left };
-
-    ghost right = { Seams.right };
+impl Semigroup for Stretch {
+    ghost joined = { end_to_end };
 
     ghost assoc = { Seams.assoc };
 
-    ghost back = { Seams.back };
-
-    fn unit() -> Seam {
-        Seam::Nothing
-    }
-
-    fn join(self, other: Seam) -> Seam {
-        match (self, other) {
-            (Seam::Nothing, _) => other,
-            (_, Seam::Nothing) => self,
-            (Seam::Over(left), Seam::Over(right)) => Seam::Over(Stretch {
-                first: left.first,
-                last: right.last,
-                sound: left.sound
-                    && right.sound
-                    && left.last.vault == right.first.vault
-                    && left.last.minute <= right.first.minute,
-            }),
+    fn join(self, other: Stretch) -> Stretch {
+        Stretch {
+            first: self.first,
+            last: other.last,
+            sound: self.sound
+                && other.sound
+                && self.last.vault == other.first.vault
+                && self.last.minute <= other.first.minute,
         }
-    }
-
-    fn from_plain(plain: Seam) -> Seam {
-        plain
-    }
-
-    fn plain(self) -> Seam {
-        self
     }
 }

@@ -1,2 +1,3 @@
 mod Shifts
+mod Searches
 mod Pairs

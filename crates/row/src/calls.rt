@@ -1,13 +1,13 @@
 //! The calls of a row.
 
-ghost use Rattle.std.specs.Prelude.{◌≡◌, ◌≤◌, min, [], vec_len, MatchResult};
+ghost use Rattle.std.specs.Prelude.{◌≡◌, ◌≤◌, min, [], take, vec_len, MatchResult};
 ghost use Rattle.book.specs.Entries.{count_below};
 ghost use Rattle.row.specs.Rows.{row_entries, row_capacity, Stands, Belongs};
 ghost use Rattle.row.specs.Invariant.{is_bounded, is_small, is_rising};
 
 use crate::entry::Entry;
 use crate::row::Row;
-use crate::slots::{join_all, place_of, put_in, take_out};
+use crate::slots::{join_values, put_in, take_out};
 use book::Book;
 use fault::BookFault;
 use monoid::Monoid;
@@ -40,24 +40,26 @@ impl<M: Monoid> Row<M> {
         MOST.min(self.memory.len())
     }
 
+    /// The entries, in rising key.
+    fn records(&self) -> &[Entry<M::Plain>]
+        ensures { result.now ≡ take self.now.count self.now.memory.items }
+    {
+        &self.memory[..self.count]
+    }
+
     /// How many keys are less than this one.
     fn place(&self, key: u64) -> usize
         ensures below { result ≡ count_below key (row_entries M.reads self.now) }
         ensures within { result ≤ self.now.count }
     {
-        place_of(&self.memory[0..self.count], key)
+        self.records().partition_point(|entry| entry.key < key)
     }
 
     /// The place of a key, or else the place where it belongs.
     fn find(&self, key: u64) -> Result<usize, usize>
         ensures { MatchResult result (Stands self.now key) (Belongs M.reads self.now key) }
     {
-        let place = self.place(key);
-        if place < self.count && self.memory[place].key == key {
-            Ok(place)
-        } else {
-            Err(place)
-        }
+        self.records().binary_search_by_key(&key, |entry| entry.key)
     }
 }
 
@@ -113,18 +115,15 @@ impl<M: Monoid> Book for Row<M> {
     }
 
     fn at(&self, n: usize) -> Option<(u64, M)> {
-        if n >= self.count {
-            return None;
-        }
-        let entry = self.memory[n];
-        Some((entry.key, M::from_plain(entry.value)))
+        let record = self.records().get(n)?;
+        Some((record.key, M::from_plain(record.value)))
     }
 
     fn fold(&self, lo: u64, hi: u64) -> M {
         let from = self.place(lo);
         let to = self.place(hi);
         if from < to {
-            join_all(&self.memory[from..to])
+            join_values(&self.records()[from..to])
         } else {
             M::unit()
         }

@@ -8,7 +8,8 @@ use crate::entry::Entry;
 use monoid::Monoid;
 
 /// A book that keeps its entries in rising key in one stretch of memory: the first `count` records
-/// are the entries, and the others are not read.
+/// are the entries, and the others are not read. The memory is the caller's: its length is the
+/// capacity, and it is handed back whole, so the count of entries stands beside it.
 #[derive(Drop)]
 pub struct Row<M: Monoid> {
     pub(crate) memory: Vec<Entry<M::Plain>>,

@@ -2,11 +2,8 @@ use Rattle.std.proofs.Common.{refl, arith}
 use Rattle.std.proofs.lemmas.Int.{ints}
 use Rattle.monoid.specs.Deficits.{numbers}
 use Rattle.monoid.specs.DeficitsLemmas.{same}
-use Rattle.monoid.proofs.Deficits.{joined_full, joined_stays, joined_passes}
+use Rattle.monoid.proofs.Deficits.{joined_stays, joined_passes}
 use Rattle.monoid.proofs.deficit.DeficitSummaryMonoid.join.Goals as goal
-
-pub returns-then-count-gt-MOST : goal.returns-then-count-gt-MOST
-returns-then-count-gt-MOST c = same _ _ (joined_full (numbers c.args.self) (numbers c.args.other) _ (omega arith) refl)
 
 pub invariant_of-result-then-self-reach : goal.invariant_of-result-then-self-reach
 invariant_of-result-then-self-reach c =

@@ -1,11 +1,7 @@
-use Rattle.std.proofs.Common.{refl, arith}
+use Rattle.std.proofs.Common.{arith}
 use Rattle.std.proofs.lemmas.Int.{ints}
-use Rattle.monoid.specs.DeficitsLemmas.{same}
 use Rattle.monoid.proofs.summary.DeficitSummary.departure.Goals as goal
 
 pub invariant_of-result : goal.invariant_of-result
 invariant_of-result c =
     record { few = omega arith; low = omega (arith, ints); under = omega (arith, ints); high = omega arith; near = omega arith; flat = λ e. absurd (omega arith); full = λ e. absurd (omega arith) }
-
-pub returns : goal.returns
-returns c = record { numbers = refl; step = same _ _ refl }
