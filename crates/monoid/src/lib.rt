@@ -3,8 +3,6 @@
 #![tactic(auto)]
 
 ghost use Rattle.std.specs.Prelude.{◌≡◌, ◌++◌, map};
-ghost use Rattle.std.specs.Iterator.{IsFinite};
-ghost use Rattle.std.specs.Iterator.Runs.{WholeRun};
 ghost use Rattle.monoid.specs.Folds.{total};
 ghost use Rattle.monoid.specs.Laws.{RecordsRead, JoinRules, StepsSummed, StepsOverfull, BitsUnited, RunsSeamed};
 
@@ -57,20 +55,12 @@ pub trait Monoid: Sized + Copy {
     ghost back: { (x : Self) → reads (written x) ≡ x };
 }
 
-/// The values that an iterator gives, joined from left to right, starting from the unit.
-pub fn join_all<M: Monoid, I: Iterator<Item = M> + Drop>(values: I) -> M
-    requires can { I.can_next values }
-    requires ends { IsFinite (I.remaining values) }
-    ensures runs { WholeRun I.next_gives values (λ p. result ≡ total M.neutral M.joined p.items) }
-{
-    values.fold(M::unit(), |sofar, value| sofar.join(value))
-}
-
 /// The values that the records read as, joined from left to right, starting from the unit.
 pub fn fold<M: Monoid>(records: &[M::Plain]) -> M
     ensures { result ≡ total M.neutral M.joined (map M.reads records.now) }
 {
-    join_all(records.iter().copied().map(|plain| M::from_plain(plain)))
+    let values = records.iter().map(|plain| M::from_plain(*plain));
+    values.fold(M::unit(), |sofar, value| sofar.join(value))
 }
 
 /// The folds of two stretches, joined: the fold of both, one after the other.
@@ -158,8 +148,6 @@ mod tests {
     fn united(rt: HostRuntime) {
         assert!(rt; fold::<Fittings>(&[2, 8, 12]) == Fittings(14));
         assert!(rt; fold::<Fittings>(&[]) == Fittings(0));
-        let some = [Fittings(2), Fittings(8), Fittings(12)];
-        assert!(rt; join_all(some.iter().copied()) == Fittings(14));
     }
 
     #[test]

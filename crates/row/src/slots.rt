@@ -5,7 +5,7 @@ ghost use Rattle.std.specs.List.{insert as put_in, remove as taken_out};
 ghost use Rattle.monoid.specs.Folds.{total};
 
 use crate::entry::Entry;
-use monoid::{Monoid, join_all};
+use monoid::Monoid;
 
 /// Puts a record at a place among the first `count`: those from there on move up by one.
 pub(crate) fn put_in<P: Copy>(memory: &mut [Entry<P>], count: usize, place: usize, entry: Entry<P>)
@@ -30,10 +30,6 @@ pub(crate) fn take_out<P: Copy>(memory: &mut [Entry<P>], count: usize, place: us
 pub(crate) fn join_values<M: Monoid>(records: &[Entry<M::Plain>]) -> M
     ensures { result ≡ total M.neutral M.joined (map (λ e. M.reads e.value) records.now) }
 {
-    join_all(
-        records
-            .iter()
-            .copied()
-            .map(|record| M::from_plain(record.value)),
-    )
+    let values = records.iter().map(|record| M::from_plain(record.value));
+    values.fold(M::unit(), |sofar, value| sofar.join(value))
 }
