@@ -2,6 +2,8 @@
 use Rattle.std.specs.Prelude.{ℕ, ◌+◌, ◌*◌, ◌/◌, ◌%◌, ◌^◌, Bool, true, false, ◌==◌}
 use Rattle.run.specs.Minutes.{arrival_minute}
 use Rattle.run.specs.declared.Run.{Run}
+use Rattle.run.specs.declared.kinds.Event.{Event}
+use Rattle.run.specs.declared.kinds.Event.TheVariants.{Arrival, Departure}
 
 -- of a departure among departures, or an arrival among arrivals: 32 bits of minute, 16 bits of number
 abbrev pub stop_key : (vault minute number : ℕ) → ℕ
@@ -14,6 +16,10 @@ kind_bit false = 0
 -- of a departure or an arrival among both: the bit of its kind stands above the number
 abbrev pub event_key : (vault minute : ℕ) (departs : Bool) (number : ℕ) → ℕ
 event_key vault minute departs number = vault * 2 ^ 49 + minute * 2 ^ 17 + kind_bit departs * 2 ^ 16 + number
+
+abbrev pub is_departure : Event → Bool
+is_departure Arrival = false
+is_departure Departure = true
 
 -- in a layout of so many kinds: the kind's place among them stands above the number
 abbrev pub packed : (kinds vault minute place number : ℕ) → ℕ

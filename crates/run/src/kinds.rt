@@ -2,7 +2,7 @@
 
 ghost use Rattle.std.specs.Prelude.{◌≡◌, ℕ, ◌+◌, ◌*◌, ◌/◌, ◌%◌, ◌^◌, ◌<◌, ◌⊎◌};
 ghost use Rattle.std.proofs.Common.{rules};
-ghost use Rattle.run.specs.Keys.{packed, kind_bit};
+ghost use Rattle.run.specs.Keys.{packed, kind_bit, is_departure};
 ghost use Rattle.run.specs.Keys.{stop_key, stop_vault, stop_minute};
 ghost use Rattle.run.specs.Keys.{event_key, event_vault, event_minute};
 ghost use Rattle.run.specs.Stretches.{stops_of, stops_in, events_of, events_in};
@@ -60,10 +60,11 @@ pub trait Kind: Copy {
 #[derive(Clone, Copy)]
 pub struct Stop;
 
-/// A departure or an arrival among both: arrivals are the first kind, departures the second.
+/// An arrival or a departure among both, arrivals first.
 #[derive(Clone, Copy)]
-pub struct Event {
-    pub departs: bool,
+pub enum Event {
+    Arrival = 0,
+    Departure = 1,
 }
 
 impl Kind for Stop {
@@ -107,9 +108,9 @@ impl Kind for Event {
 
     ghost COUNT = { 2 };
 
-    ghost place = { λ kind. kind_bit kind.departs };
+    ghost place = { λ kind. kind_bit (is_departure kind) };
 
-    ghost key = { λ vault minute kind number. event_key vault minute kind.departs number };
+    ghost key = { λ vault minute kind number. event_key vault minute (is_departure kind) number };
 
     ghost vault = { event_vault };
 
@@ -134,6 +135,6 @@ impl Kind for Event {
     ghost spans_minutes = { Prim.search rules };
 
     fn place(self) -> u64 {
-        self.departs as u64
+        self as u64
     }
 }

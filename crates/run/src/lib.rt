@@ -57,16 +57,14 @@ impl Run {
     pub fn departure_event(&self) -> u64
         ensures { result ≡ departure_event self.now }
     {
-        let departure = Event { departs: true };
-        key(self.from, self.start, departure, self.number)
+        key(self.from, self.start, Event::Departure, self.number)
     }
 
     /// The arrival's key among events.
     pub fn arrival_event(&self) -> u64
         ensures { result ≡ arrival_event self.now }
     {
-        let arrival = Event { departs: false };
-        key(self.to, self.arrival_minute(), arrival, self.number)
+        key(self.to, self.arrival_minute(), Event::Arrival, self.number)
     }
 }
 
