@@ -6,7 +6,8 @@ use Rattle.fault.specs.declared.PageFault.TheVariants.{Excess}
 use Rattle.fault.specs.declared.Section.TheVariants.{Names, Runs, Edits}
 use Rattle.fault.specs.declared.Located.{Located}
 use Rattle.page_format.specs.Grammar.{Content, LawfulPage, section_bytes, page_bytes}
-use Rattle.page_format.specs.Reading.{located, after, section_end, section_items, at_end, reading}
+use Rattle.fault.specs.Places.{located}
+use Rattle.page_format.specs.Reading.{after, section_end, section_items, at_end, reading}
 use Rattle.page_format.specs.Laws.{ReadsBack, WritesBack, OneReading, PlacesWithin}
 use Rattle.page_format.proofs.Steps.{after_to, after_ok, after_err}
 use Rattle.page_format.proofs.Sections.{section_written, section_within, section_fault, section_read_lem}

@@ -9,7 +9,8 @@ use Rattle.fault.specs.declared.Section.{Section}
 use Rattle.fault.specs.declared.Section.TheVariants.{Names, Runs, Edits}
 use Rattle.fault.specs.declared.Located.{Located}
 use Rattle.page_format.specs.Grammar.{Item, Lawful, item_bytes, limit, width, count_bytes, section_bytes}
-use Rattle.page_format.specs.Reading.{count_of, count_fault, located, walk, section_end, section_items}
+use Rattle.fault.specs.Places.{located}
+use Rattle.page_format.specs.Reading.{count_of, count_fault, walk, section_end, section_items}
 use Rattle.page_format.specs.Laws.{Bytes}
 use Rattle.page_format.proofs.Digits.{two_back, firsts_take, two_at_is}
 use Rattle.page_format.proofs.Records.{cond_none}

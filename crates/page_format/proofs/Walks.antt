@@ -6,7 +6,8 @@ use Rattle.std.proofs.ByRecursion.{All-drop}
 use Rattle.fault.specs.declared.Section.{Section}
 use Rattle.fault.specs.declared.Located.{Located}
 use Rattle.page_format.specs.Grammar.{Item, Lawful, item_bytes}
-use Rattle.page_format.specs.Reading.{record_fault, record_size, located, walk, items}
+use Rattle.fault.specs.Places.{located}
+use Rattle.page_format.specs.Reading.{record_fault, record_size, walk, items}
 use Rattle.page_format.specs.Laws.{Bytes}
 use Rattle.page_format.proofs.Records.{fault_none_size, record_written, record_read}
 use Rattle.page_format.proofs.Steps.{unless_ok, unless_err}

@@ -2,6 +2,7 @@
 --
 -- `s` is always what the page holds from some byte on, and `at` is that byte.
 use Rattle.std.specs.Prelude.{ℕ, zero, suc, ◌+◌, ◌-◌, ◌*◌, Bool, true, cond, ◌&&◌, ◌||◌, List, [], ◌∷◌, length, take, drop, Some, None, Ok, Err, Option, Result, ◌==◌, nat_le, nat_lt, slice_index}
+use Rattle.fault.specs.Places.{located}
 use Rattle.fault.specs.declared.PageFault.{PageFault}
 use Rattle.fault.specs.declared.PageFault.TheVariants.{Short, CountAboveLimit, BadName, EditKind, Excess}
 use Rattle.fault.specs.declared.Section.{Section}
@@ -85,9 +86,6 @@ count_of Edits s = two_at s 0
 
 abbrev pub count_fault : Section → List ℕ → Option PageFault
 count_fault x s = cond (nat_lt (length s) (width x)) (Some Short) (cond (nat_lt (limit x) (count_of x s)) (Some CountAboveLimit) None)
-
-abbrev pub located : PageFault → Section → ℕ → ℕ → Located
-located f x k at = record { fault = f; place = record { section = x; «record» = k; byte = at } }
 
 -- go on where there is no fault
 abbrev pub unless : {R : Type 0} → Option PageFault → (PageFault → R) → R → R

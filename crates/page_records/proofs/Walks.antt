@@ -5,7 +5,8 @@ use Rattle.std.proofs.lemmas.Bool.{le-leb, lt-leb}
 use Rattle.fault.specs.declared.Located.{Located}
 use Rattle.fault.specs.declared.PageFault.{PageFault}
 use Rattle.fault.specs.declared.Section.{Section}
-use Rattle.page_format.specs.Reading.{located, record_fault, record_size, count_fault, count_of}
+use Rattle.fault.specs.Places.{located}
+use Rattle.page_format.specs.Reading.{record_fault, record_size, count_fault, count_of}
 use Rattle.page_format.proofs.Steps.{unless_ok}
 use Rattle.page_records.specs.declared.cursor.Cursor.{Cursor}
 use Rattle.page_records.specs.declared.record.Record.{Record}

@@ -4,7 +4,8 @@ use Rattle.fault.specs.declared.PageFault.{PageFault}
 use Rattle.fault.specs.declared.Section.{Section}
 use Rattle.fault.specs.declared.Located.{Located}
 use Rattle.page_format.specs.Grammar.{width}
-use Rattle.page_format.specs.Reading.{record_fault, record_size, count_fault, count_of, located, unless, section_rest}
+use Rattle.fault.specs.Places.{located}
+use Rattle.page_format.specs.Reading.{record_fault, record_size, count_fault, count_of, unless, section_rest}
 use Rattle.page_records.specs.declared.cursor.Cursor.{Cursor}
 
 -- the size of the record that begins with these bytes, or its fault
