@@ -18,6 +18,10 @@ pub use laws::{
 };
 
 /// Entries in strictly rising key, at most `capacity` of them. Questions change nothing.
+///
+/// That the capacity stays is a clause of each call that changes the book, since it compares two
+/// states and an invariant speaks of one. That stored folds are right is a member and no ghost field:
+/// equality of a monoid's values is not known to be a proposition.
 pub trait Book {
     type Value: Monoid;
 

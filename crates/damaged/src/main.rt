@@ -6,6 +6,7 @@ use anyhow::anyhow;
 use page::check;
 use std::io::{BufRead, BufReader};
 
+/// The value of a small hexadecimal digit; std's `to_digit` takes capitals too.
 fn digit(c: u8) -> Option<u8> {
     match c {
         b'0'..=b'9' => Some(c - b'0'),

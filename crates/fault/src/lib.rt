@@ -64,7 +64,8 @@ pub enum PlanFault {
 }
 
 impl PlanFault {
-    /// The number by which operators know the fault; of a book's fault, the book's number.
+    /// The number by which operators know the fault; of a book's fault, the book's number. A match
+    /// and no cast, since a variant carries that fault.
     pub fn number(self) -> u8
         ensures { result ≡ plan_number self }
     {
@@ -112,7 +113,8 @@ pub enum PageFault {
 }
 
 impl PageFault {
-    /// The number by which operators know the fault; of a plan's fault, the plan's number.
+    /// The number by which operators know the fault; of a plan's fault, the plan's number. A match
+    /// and no cast, since a variant carries that fault.
     pub fn number(self) -> u8
         ensures { result ≡ page_number self }
     {

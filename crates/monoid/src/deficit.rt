@@ -13,6 +13,7 @@ const MOST: u32 = 65_535;
 /// The count of an overfull summary.
 const OVERFULL: u32 = 65_536;
 
+// Two constants with names: one function of the step would match it on the same literals.
 impl DeficitSummary {
     /// One departure: the level rises by one.
     pub fn departure() -> DeficitSummary
@@ -41,7 +42,8 @@ impl DeficitSummary {
     }
 }
 
-/// Whether a record keeps the summary's invariant.
+/// Whether a record keeps the summary's invariant. A test and no `TryFrom`: every record reads as
+/// some value, so an error would be thrown away at once.
 fn is_consistent(p: DeficitPlain) -> bool
     ensures { Decides result (Consistent p) }
 {

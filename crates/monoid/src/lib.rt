@@ -18,7 +18,8 @@ pub use semigroup::Semigroup;
 pub use summary::{DeficitPlain, DeficitSummary};
 
 /// A value with a unit and an associative join. Memory holds it as a plain record: the one made
-/// from a value reads back as that value, and any other reads as some value too.
+/// from a value reads back as that value, and any other reads as some value too. The law `back`
+/// ties the two conversions, which are functions of the trait for its sake: std's `From` has no law.
 pub trait Monoid: Sized + Copy {
     type Plain: Copy;
 

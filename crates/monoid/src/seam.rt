@@ -14,6 +14,7 @@ pub struct Stop {
 }
 
 /// Where and when runs begin and end, and whether each of them takes up where the one before ended.
+/// A stretch that is not sound has its first and last stop all the same.
 #[derive(Clone, Copy, PartialEq, Eq)]
 pub struct Stretch {
     pub first: Stop,

@@ -13,7 +13,8 @@ pub struct DeficitPlain {
 }
 
 /// What departures and arrivals come to, in their order. A level is the departures so far minus
-/// the arrivals so far. Above 65,535 of them the summary is overfull: count 65,536, the rest 0.
+/// the arrivals so far. Above 65,535 of them the summary is overfull: count 65,536, the rest 0. The
+/// facts stand over its own four numbers; of a plain record, which has none, they are a statement.
 #[derive(Clone, Copy)]
 pub struct DeficitSummary {
     /// how many they are

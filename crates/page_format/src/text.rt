@@ -1,4 +1,4 @@
-//! The lines in which a page is listed.
+//! The lines in which a page is listed. Each has its own fields and words, and nothing else.
 
 ghost use Rattle.std.specs.Prelude.{Some};
 ghost use Rattle.page_format.specs.Text.{retime_text, edit_text, counts_text};

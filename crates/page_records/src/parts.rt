@@ -94,7 +94,8 @@ fn edit<'a>(s: &'a [u8]) -> Result<(Record<'a>, usize), PageFault>
     Ok((kind.record(part), 1 + n))
 }
 
-/// The record that these bytes begin with and its size, or its fault.
+/// The record that these bytes begin with and its size, or its fault. A closure for each section
+/// would be made by the same match.
 pub(crate) fn record_of<'a>(section: Section, s: &'a [u8]) -> Result<(Record<'a>, usize), PageFault>
     ensures { First section s.now result }
 {

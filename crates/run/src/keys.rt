@@ -45,6 +45,8 @@ pub fn key<K: Kind>(vault: u8, minute: u32, kind: K, number: u16) -> u64
     first_key::<K>(vault, minute) + kind.place() * NUMBERS + number as u64
 }
 
+// A function of unit, count and width for these two would be as long as its calls.
+
 /// The vault of a key.
 pub fn vault_of<K: Kind>(key: u64) -> u8
     ensures { result ≡ K.vault key }

@@ -39,6 +39,9 @@ impl Run {
         self.end
     }
 
+    // Each of these keys names its own end of the run: an argument for the end would be matched on
+    // the same fields.
+
     /// The departure's key among departures: from-vault, start, number.
     pub fn departure_key(&self) -> u64
         ensures { result ≡ departure_key self.now }
