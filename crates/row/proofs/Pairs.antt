@@ -1,8 +1,9 @@
 -- The entries that a row's records mean, under edits and questions at places.
-use Rattle.std.proofs.Common.{◌≡◌, ℕ, zero, suc, ◌+◌, ◌-◌, ◌<◌, ◌≤◌, true, List, [], ◌∷◌, map, length, get_or, take, drop, Some, vec_items, sym, ap, ◌∙◌, ⊎_elim, arith}
-use Rattle.std.specs.List.{insert as put_in, remove as taken_out}
-use Rattle.std.specs.Vec.{with_items}
-use Rattle.std.proofs.lemmas.List.{map-append, take-map, drop-map, get_or-map, get_or-take, length-map, length-take-le, with_items_is}
+use Rattle.std.proofs.Common.{◌≡◌, ℕ, zero, suc, ◌+◌, ◌-◌, ◌<◌, ◌≤◌, true, List, [], ◌∷◌, ◌++◌, map, length, get_or, take, drop, Some, vec_items, sym, ap, ap₂, ◌∙◌, ⊎_elim, arith}
+use Rattle.std.specs.List.{slice_range, insert as put_in, remove as taken_out}
+use Rattle.std.specs.Vec.{with_items_from}
+use Rattle.std.proofs.lemmas.List.{map-append, take-map, drop-map, get_or-map, get_or-take, length-append, length-drop, length-map, length-take-le, take-append-le, take-take, take_all, with_items_is}
+use Rattle.std.proofs.lemmas.Slice.{between_from_start}
 use Rattle.std.proofs.lemmas.Simd.{map-map}
 use Rattle.std.proofs.lemmas.Bool.{cases_lt}
 use Rattle.std.proofs.lemmas.Bool.Decides.{nat_tests}
@@ -84,21 +85,33 @@ module _ {M P V : Type 0} {m : Ghosts M P} (reads : P → V) (r : Row M P m) (k 
     pub value_there : value_of k (row_entries reads r) ≡ Some (reads x.value)
     value_there = value_at k (row_entries reads r) place (pair reads x) (strict _ (is_rising reads r)) within (ap (λ p. p.0) stood ∙ key) ∙ ap (λ p. Some p.1) stood
 
-  -- the memory after a change: `given` and `last` are what the slice held before and after
-  module _ (given last : List (Entry P)) (was : given ≡ vec_items r.memory) (same : length last ≡ r.memory.len) where
-    pub entries_put : (x : Entry P) → x.key ≡ k → Belongs reads r k place → take (r.count + 1) last ≡ put_in (take r.count given) place x → pairs reads (take (r.count + 1) (with_items r.memory last).items) ≡ inserted k (reads x.value) (row_entries reads r)
-    unfolding records
-    entries_put x q at made =
-        let es = row_entries reads r in
-        ap (λ l. pairs reads (take (r.count + 1) l)) (with_items_is r.memory last same) ∙ ap (pairs reads) made ∙ ap (λ l. pairs reads (put_in (take r.count l) place x)) was
-        ∙ pairs_put reads records place x
-        ∙ ap (λ j. put_in es place (j, reads x.value)) q
-        ∙ ap (λ j. put_in es j (k, reads x.value)) at.there
-        ∙ sym (inserted_at k (reads x.value) es (is_rising reads r) at.absent)
+  -- the memory after a change of its first n slots: `given` is what they held, and `part` what they hold then
+  module _ (n : ℕ) (given part : List (Entry P)) (was : given ≡ slice_range (vec_items r.memory) 0 n) (same : length part ≡ length given) (fits : n ≤ r.memory.len) where
+    held_first : given ≡ take n (vec_items r.memory)
+    held_first = was ∙ between_from_start (vec_items r.memory) n
 
-    pub entries_taken : (x : Entry P) → x ≡ get_or (vec_items r.memory) place x → Stands r k place → take (r.count - 1) last ≡ taken_out (take r.count given) place → pairs reads (take (r.count - 1) (with_items r.memory last).items) ≡ removed k (row_entries reads r)
+    lent : length given ≡ n
+    lent = let long = r.memory.ok.0 in ap length held_first ∙ length-take-le n (vec_items r.memory) (omega arith)
+
+    first : (j : ℕ) → j ≤ n → take j (with_items_from r.memory 0 part).items ≡ take j part
+    first j h =
+        let rest = drop (length part) (vec_items r.memory) in
+        let long = r.memory.ok.0 in
+        ap (take j) (with_items_is r.memory (part ++ rest) (omega (arith, lent, length-append part rest, length-drop (length part) (vec_items r.memory)))) ∙ take-append-le j part rest (omega (arith, lent))
+
+    pub entries_put : (x : Entry P) → n ≡ r.count + 1 → x.key ≡ k → Belongs reads r k place → part ≡ put_in (take (length given - 1) given) place x → pairs reads (take n (with_items_from r.memory 0 part).items) ≡ inserted k (reads x.value) (row_entries reads r)
     unfolding records
-    entries_taken x read at made =
-        ap (λ l. pairs reads (take (r.count - 1) l)) (with_items_is r.memory last same) ∙ ap (pairs reads) made ∙ ap (λ l. pairs reads (taken_out (take r.count l) place)) was
+    entries_put x more q at made =
+        let fewer : take (length given - 1) given ≡ records = ap₂ take (omega (arith, lent)) held_first ∙ take-take r.count n (vec_items r.memory) (omega arith) in
+        ap (pairs reads) (first n (omega arith) ∙ take_all n part (omega (arith, lent)) ∙ made ∙ ap (λ l. put_in l place x) fewer)
+        ∙ pairs_put reads records place x
+        ∙ ap (λ j. put_in (row_entries reads r) place (j, reads x.value)) q
+        ∙ ap (λ j. put_in (row_entries reads r) j (k, reads x.value)) at.there
+        ∙ sym (inserted_at k (reads x.value) (row_entries reads r) (is_rising reads r) at.absent)
+
+    pub entries_taken : (x : Entry P) → n ≡ r.count → x ≡ get_or (vec_items r.memory) place x → Stands r k place → take (length given - 1) part ≡ taken_out given place → pairs reads (take (n - 1) (with_items_from r.memory 0 part).items) ≡ removed k (row_entries reads r)
+    unfolding records
+    entries_taken x all read at made =
+        ap (pairs reads) (first (n - 1) (omega arith) ∙ ap (λ j. take (j - 1) part) (sym lent) ∙ made ∙ ap (λ l. taken_out l place) (held_first ∙ ap (λ j. take j (vec_items r.memory)) all))
         ∙ pairs_taken reads records place
         ∙ sym (removed_at k (row_entries reads r) place (pair reads x) (is_rising reads r) (within x read at) (ap (λ p. p.0) (stood x read at) ∙ key x read at))

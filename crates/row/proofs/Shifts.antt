@@ -1,46 +1,36 @@
--- What moving records by one leaves of the first ones.
-use Rattle.std.proofs.Common.{◌≡◌, ℕ, suc, ◌+◌, ◌-◌, ◌<◌, ◌≤◌, List, ◌∷◌, ◌++◌, length, take, drop, set, sym, ap, ◌∙◌, arith}
-use lib.Seq.{paste}
-use Rattle.std.specs.List.{insert, remove}
-use Rattle.std.proofs.lemmas.List.{append_assoc, length-append, length-take-le, length-drop, take-take, take_at, drop_at, drop-take, set_split, take-append-le}
-use Rattle.std.proofs.lemmas.List.Edits.{take-paste, length-paste}
+-- What turning the slots from a place on by one leaves.
+use Rattle.std.proofs.Common.{◌≡◌, ℕ, ◌+◌, ◌-◌, ◌<◌, List, [], ◌∷◌, ◌++◌, length, get_or, take, drop, set, sym, ap, ap₂, ◌∙◌, arith}
+use borrow.Rule.Slice.PartMut.{mid_of, put_mid}
+use Rattle.std.specs.List.{insert, remove, slice_rotate_right}
+use Rattle.std.proofs.lemmas.List.{append-nil, length-drop, length-take-le, take_rest, take-take, take_at, drop_more, drop_all, drop-take, set_at}
+use Rattle.std.proofs.lemmas.List.Edits.{length-remove}
+use Rattle.std.proofs.lemmas.Slice.{put_mid-rotated}
 
-module _ {X : Type 0} (xs : List X) (place count : ℕ) where
-  rest_is : place ≤ count → drop place (take count xs) ≡ take (count - place) (drop place xs)
-  rest_is h =
-      let n : count ≡ place + (count - place) = omega arith in
-      ap (λ m. drop place (take m xs)) n ∙ drop-take place (count - place) xs
+-- the slots from a place on, and a slice with others there
+abbrev tail_of : {X : Type 0} → List X → ℕ → List X
+tail_of xs place = mid_of place (length xs - place) xs
 
-  -- those behind a place moved down
-  pub moved_down : place < count → count ≤ length xs → take (count - 1) (paste xs place (drop (place + 1) xs) (count - (place + 1))) ≡ remove (take count xs) place
-  moved_down h k =
-      let n = count - (place + 1) in
-      let s = drop (place + 1) xs in
-      let at : count - 1 ≡ place + n = omega arith in
-      let long : n ≤ length s = omega (arith, length-drop (place + 1) xs) in
-      let one : place + 1 ≡ suc place = omega arith in
-      let m : count ≡ suc place + n = omega arith in
-      let tail : drop (suc place) (take count xs) ≡ take n s = ap (λ j. drop (suc place) (take j xs)) m ∙ drop-take (suc place) n xs ∙ ap (λ j. take n (drop j xs)) (sym one) in
-      ap (λ j. take j (paste xs place s n)) at ∙ take-paste xs place s n (omega arith) long
-      ∙ ap (λ l. l ++ take n s) (sym (take-take place count xs (omega arith))) ∙ ap (λ l. take place (take count xs) ++ l) (sym tail)
+abbrev with_tail : {X : Type 0} → List X → ℕ → List X → List X
+with_tail xs place ys = put_mid place (length xs - place) xs ys
 
-  -- those from a place on moved up, and one written there
-  pub moved_up : (x : X) → place ≤ count → count < length xs → take (count + 1) (set (paste xs (place + 1) (drop place xs) (count - place)) place x) ≡ insert (take count xs) place x
-  moved_up x h k =
-      let n = count - place in
-      let zs = paste xs (place + 1) (drop place xs) n in
-      let front = take (place + 1) xs in
-      let mid = take n (drop place xs) in
-      let back = drop (place + 1 + n) xs in
-      let whole : zs ≡ front ++ (mid ++ back) = append_assoc front mid back in
-      let long : length front ≡ place + 1 = length-take-le (place + 1) xs (omega arith) in
-      let rest : n ≤ length (drop place xs) = omega (arith, length-drop place xs) in
-      let size : length mid ≡ n = length-take-le n (drop place xs) rest in
-      let all : length zs ≡ length xs = length-paste xs (place + 1) (drop place xs) n (omega arith) rest in
-      let low : take place zs ≡ take place xs = ap (take place) whole ∙ take-append-le place front (mid ++ back) (omega arith) ∙ take-take place (place + 1) xs (omega arith) in
-      let high : drop (suc place) zs ≡ mid ++ back = ap (drop (suc place)) whole ∙ drop_at front (mid ++ back) (suc place) (omega arith) in
-      let made : set zs place x ≡ (take place xs ++ (x ∷ mid)) ++ back = set_split zs place x (omega arith) ∙ ap (λ l. l ++ (x ∷ drop (suc place) zs)) low ∙ ap (λ l. take place xs ++ (x ∷ l)) high ∙ sym (append_assoc (take place xs) (x ∷ mid) back) in
-      let size2 : length (take place xs) ≡ place = length-take-le place xs (omega arith) in
-      let total : length (take place xs ++ (x ∷ mid)) ≡ count + 1 = omega (arith, length-append (take place xs) (x ∷ mid)) in
-      ap (take (count + 1)) made ∙ take_at (take place xs ++ (x ∷ mid)) back (count + 1) total
-      ∙ ap (λ l. l ++ (x ∷ mid)) (sym (take-take place count xs h)) ∙ ap (λ l. take place (take count xs) ++ (x ∷ l)) (sym (rest_is h))
+module _ {X : Type 0} where
+  -- after a turn to the left: without the one at the place
+  pub moved_down : (xs ys : List X) (place : ℕ) → place < length xs → ys ≡ drop 1 (tail_of xs place) ++ take 1 (tail_of xs place) → take (length xs - 1) (with_tail xs place ys) ≡ remove xs place
+  moved_down [] ys place h turned = absurd (omega arith)
+  moved_down (x ∷ xs) ys place h turned =
+      let all = x ∷ xs in
+      ap (take (length all - 1)) (put_mid-rotated place _ all ys x h (omega arith) turned)
+      ∙ take_at (remove all place) (get_or all place x ∷ []) (length all - 1) (omega (arith, length-remove all place h))
+
+  -- after a turn to the right and a write: with one more, at the place
+  pub moved_up : (xs ys : List X) (place : ℕ) (x : X) → place < length xs → ys ≡ slice_rotate_right (tail_of xs place) 1 → set (with_tail xs place ys) place x ≡ insert (take (length xs - 1) xs) place x
+  moved_up xs ys place x h turned =
+      let rest = drop place xs in
+      let n = length rest - 1 in
+      let size : length rest ≡ length xs - place = length-drop place xs in
+      let last : drop n rest ≡ get_or rest n x ∷ [] = drop_more rest n x (omega arith) ∙ ap (λ l. get_or rest n x ∷ l) (drop_all (n + 1) rest (omega arith)) in
+      let now : ys ≡ get_or rest n x ∷ take n rest = turned ∙ ap (λ l. slice_rotate_right l 1) (take_rest xs place) ∙ ap (λ l. l ++ take n rest) last in
+      let all : with_tail xs place ys ≡ take place xs ++ get_or rest n x ∷ take n rest = ap (λ l. take place xs ++ l) (ap₂ (λ u v. u ++ v) now (drop_all (length xs - place) rest (omega arith)) ∙ append-nil _) in
+      let most : length xs - 1 ≡ place + n = omega arith in
+      ap (λ l. set l place x) all ∙ set_at (take place xs) _ (take n rest) x place (length-take-le place xs (omega arith))
+      ∙ ap₂ (λ u v. u ++ x ∷ v) (sym (take-take place (length xs - 1) xs (omega arith))) (sym (ap (λ j. drop place (take j xs)) most ∙ drop-take place n xs))

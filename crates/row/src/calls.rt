@@ -90,7 +90,7 @@ impl<M: Monoid> Book for Row<M> {
             key,
             value: value.plain(),
         };
-        put_in(&mut self.memory, count, place, entry);
+        put_in(self.memory.slice_mut(..count + 1), place, entry);
         self.count = count + 1;
         Ok(())
     }
@@ -102,7 +102,7 @@ impl<M: Monoid> Book for Row<M> {
         let count = self.count;
         let value = M::from_plain(self.memory[place].value);
         self.count = count - 1;
-        take_out(&mut self.memory, count, place);
+        take_out(self.memory.slice_mut(..count), place);
         Ok(value)
     }
 

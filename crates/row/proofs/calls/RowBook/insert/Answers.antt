@@ -1,5 +1,5 @@
-use Rattle.std.proofs.Common.{◌≡◌, ◌+◌, ◌<◌, length, take, sym, refl, ap, ◌∙◌, arith}
-use Rattle.std.specs.Vec.{with_items}
+use Rattle.std.proofs.Common.{◌≡◌, ◌+◌, ◌<◌, take, sym, refl, ap, ◌∙◌, arith}
+use Rattle.std.specs.Vec.{with_items_from}
 use Rattle.book.specs.Entries.{ascending, inserted}
 use Rattle.book.proofs.Calls.{insert_held, insert_done}
 use Rattle.book.proofs.Edits.{inserted_ascends}
@@ -22,12 +22,10 @@ invariant_of-self g c =
     let row = c.args.self.now in
     let k = c.args.key in
     let at = c.in-Err.ensures in
-    let last = c.put_in.new.memory in
-    let size : length last ≡ row.memory.len = omega (arith, c.put_in.auto.memory, c.deref_mut.ensures.len) in
-    let put = entries_put reads row k c.in-Err.place c.deref_mut.result.now last c.deref_mut.ensures.value size record { key = k; value = c.plain.result } refl at c.put_in.ensures in
     let room : row.count < row_capacity row = omega (arith, row.within, row.small, c.room.ensures, c.if-count-room.false) in
+    let put = entries_put reads row k c.in-Err.place (row.count + 1) c.slice_mut.result.now c.put_in.new.slots c.slice_mut.ensures.value c.put_in.auto.slots (omega arith) record { key = k; value = c.plain.result } refl refl at c.put_in.ensures in
     let up = ap ascending put ∙ inserted_ascends k (reads c.plain.result) (row_entries reads row) (is_rising reads row) at.absent in
-    record { within = omega arith; small = omega arith; rising = same_order stored reads (take (row.count + 1) (with_items row.memory last).items) ∙ up }
+    record { within = omega arith; small = omega arith; rising = same_order stored reads (take (row.count + 1) (with_items_from row.memory 0 c.put_in.new.slots).items) ∙ up }
 
 pub returns-clause-after : goal.returns-clause-after
 returns-clause-after g c =
@@ -36,7 +34,7 @@ returns-clause-after g c =
     let k = c.args.key in
     let at = c.in-Err.ensures in
     let es = row_entries reads row in
-    let size : length c.put_in.new.memory ≡ row.memory.len = omega (arith, c.put_in.auto.memory, c.deref_mut.ensures.len) in
-    let put = entries_put reads row k c.in-Err.place c.deref_mut.result.now c.put_in.new.memory c.deref_mut.ensures.value size record { key = k; value = c.plain.result } refl at c.put_in.ensures in
+    let room : row.count < row_capacity row = omega (arith, row.within, row.small, c.room.ensures, c.if-count-room.false) in
+    let put = entries_put reads row k c.in-Err.place (row.count + 1) c.slice_mut.result.now c.put_in.new.slots c.slice_mut.ensures.value c.put_in.auto.slots (omega arith) record { key = k; value = c.plain.result } refl refl at c.put_in.ensures in
     let value : reads c.plain.result ≡ c.args.value = ap reads c.plain.ensures ∙ g.met.M.Monoid.back c.args.value in
     put ∙ ap (λ v. inserted k v es) value ∙ insert_done k c.args.value es (row_capacity row) at.absent (λ full. c.if-count-room.false (sym (count_is reads row) ∙ full ∙ sym c.room.ensures))

@@ -1,5 +1,5 @@
-use Rattle.std.proofs.Common.{◌≡◌, ◌-◌, length, take, Ok, refl, ap, ◌∙◌, arith}
-use Rattle.std.specs.Vec.{with_items}
+use Rattle.std.proofs.Common.{◌-◌, take, Ok, refl, ap, ◌∙◌, arith}
+use Rattle.std.specs.Vec.{with_items_from}
 use Rattle.book.specs.Entries.{ascending}
 use Rattle.book.proofs.Calls.{remove_unheld, remove_done}
 use Rattle.book.proofs.Edits.{removed_ascends}
@@ -19,11 +19,10 @@ invariant_of-self g c =
     let reads = g.M.Monoid.reads in
     let row = c.args.self.now in
     let k = c.args.key in
-    let last = c.take_out.new.memory in
-    let size : length last ≡ row.memory.len = omega (arith, c.take_out.auto.memory, c.deref_mut.ensures.len) in
-    let gone = entries_taken reads row k c.in-Ok.place c.deref_mut.result.now last c.deref_mut.ensures.value size c.index.result.now c.index.ensures c.in-Ok.ensures c.take_out.ensures in
+    let x = c.index.result.now in
+    let gone = entries_taken reads row k c.in-Ok.place row.count c.slice_mut.result.now c.take_out.new.slots c.slice_mut.ensures.value c.take_out.auto.slots row.within x refl c.index.ensures c.in-Ok.ensures c.take_out.ensures in
     let up = ap ascending gone ∙ removed_ascends k (row_entries reads row) (is_rising reads row) in
-    record { within = omega (arith, row.within); small = omega (arith, row.small); rising = same_order stored reads (take (row.count - 1) (with_items row.memory last).items) ∙ up }
+    record { within = omega (arith, row.within); small = omega (arith, row.small); rising = same_order stored reads (take (row.count - 1) (with_items_from row.memory 0 c.take_out.new.slots).items) ∙ up }
 
 pub returns : goal.returns
 returns g c =
@@ -31,8 +30,6 @@ returns g c =
     let row = c.args.self.now in
     let k = c.args.key in
     let x = c.index.result.now in
-    let last = c.take_out.new.memory in
-    let size : length last ≡ row.memory.len = omega (arith, c.take_out.auto.memory, c.deref_mut.ensures.len) in
-    let gone = entries_taken reads row k c.in-Ok.place c.deref_mut.result.now last c.deref_mut.ensures.value size x c.index.ensures c.in-Ok.ensures c.take_out.ensures in
+    let gone = entries_taken reads row k c.in-Ok.place row.count c.slice_mut.result.now c.take_out.new.slots c.slice_mut.ensures.value c.take_out.auto.slots row.within x refl c.index.ensures c.in-Ok.ensures c.take_out.ensures in
     let found = value_there reads row k c.in-Ok.place x c.index.ensures c.in-Ok.ensures in
     record { answer = ap Ok c.from_plain-value.ensures ∙ remove_done k (reads x.value) (row_entries reads row) found; after = gone; kept = refl; sums = λ s. s }
