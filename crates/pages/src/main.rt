@@ -4,7 +4,7 @@
 #![tactic(auto)]
 
 use fault::Located;
-use page::stage::Stage;
+use page::stage::{Edits, Names, Runs, Stage};
 use page::{AtNames, Reader, Record, Refused, check};
 use page_format::Counts;
 use std::fmt::Display;
@@ -58,7 +58,8 @@ fn input(rt: &HostRuntime) -> io::Result<Vec<u8>> {
     Ok(page)
 }
 
-/// Tells how many records the section has, and then each of them by a line.
+/// Tells how many records the section has, and then each of them by a line. A call names the section,
+/// so that a reader at another one is refused.
 fn list<'a, S: Stage, L: FnMut(u16, Record<'a>) -> Result<(), Trouble>>(
     rt: &HostRuntime,
     word: &str,
@@ -98,11 +99,11 @@ fn say_name(rt: &HostRuntime, k: u16, record: Record) -> Result<(), Trouble> {
 /// Lists a page that `check` found good.
 fn list_page(rt: &HostRuntime, page: &[u8], counts: Counts) -> Result<(), Trouble> {
     let mut names = AtNames::new(page);
-    list(rt, "names", &mut names, |k, record| say_name(rt, k, record))?;
+    list::<Names, _>(rt, "names", &mut names, |k, record| say_name(rt, k, record))?;
     let mut runs = names.step()?;
-    list(rt, "runs", &mut runs, |_, record| say(rt, record.add()))?;
+    list::<Runs, _>(rt, "runs", &mut runs, |_, record| say(rt, record.add()))?;
     let mut edits = runs.step()?;
-    list(rt, "edits", &mut edits, |_, record| say(rt, record.edit()))?;
+    list::<Edits, _>(rt, "edits", &mut edits, |_, record| say(rt, record.edit()))?;
     let size = edits.step()?.len();
     println!(rt; "page of {size} bytes: {counts}")?;
     Ok(())
