@@ -4,7 +4,7 @@
 
 ghost use Rattle.std.specs.Prelude.{◌≡◌, Some};
 ghost use Rattle.fault.specs.Numbers.{book_number, plan_number, page_number, section_number, layer_of};
-ghost use Rattle.fault.specs.Line.{layer_word, fault_line};
+ghost use Rattle.fault.specs.Line.{layer_word, section_word, fault_line};
 ghost use Rattle.fault.specs.Places.{located};
 ghost use Rattle.fault.specs.Laws.{NumbersDiffer, LayersNest};
 ghost use Rattle.fault.specs.declared.PlanFault.TheVariants.{Book};
@@ -209,6 +209,18 @@ impl Section {
         ensures { result ≡ section_number self }
     {
         self as u8
+    }
+}
+
+impl fmt::Display for Section {
+    ghost output = { λ x. Some (section_word x) };
+
+    fn fmt<W: fmt::Write>(&self, f: &mut fmt::Formatter<W>) -> fmt::Result {
+        match self {
+            Section::Names => f.write_str("names"),
+            Section::Runs => f.write_str("runs"),
+            Section::Edits => f.write_str("edits"),
+        }
     }
 }
 

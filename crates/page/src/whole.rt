@@ -1,6 +1,6 @@
 //! Calls on a whole page.
 
-ghost use Rattle.std.specs.Prelude.{◌≡◌, ◌+◌, MatchOption, MatchResult};
+ghost use Rattle.std.specs.Prelude.{◌≡◌, MatchOption, MatchResult};
 ghost use Rattle.page_format.specs.Reading.{reading};
 ghost use Rattle.page.specs.Wholes.{section_read, tallied, Encodes, NoPage, NoName, NameAt, Span};
 

@@ -10,9 +10,7 @@ impl fmt::Display for Retime {
     ghost output = { λ t. Some (retime_text t) };
 
     fn fmt<W: fmt::Write>(&self, f: &mut fmt::Formatter<W>) -> fmt::Result {
-        let run = self.run;
-        let start = self.start;
-        let end = self.end;
+        let Retime { run, start, end } = *self;
         write!(f, "{run} {start} {end}")
     }
 }
@@ -33,9 +31,7 @@ impl fmt::Display for Counts {
     ghost output = { λ n. Some (counts_text n) };
 
     fn fmt<W: fmt::Write>(&self, f: &mut fmt::Formatter<W>) -> fmt::Result {
-        let names = self.names;
-        let runs = self.runs;
-        let edits = self.edits;
+        let Counts { names, runs, edits } = *self;
         write!(f, "{names} names, {runs} runs, {edits} edits")
     }
 }

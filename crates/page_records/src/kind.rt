@@ -5,7 +5,7 @@ ghost use Rattle.page_format.specs.Reading.{kind_size};
 ghost use Rattle.page_records.specs.Kinds.{code_of, Decodes};
 ghost use Rattle.page_records.specs.Records.{of_kind};
 
-use crate::record::Record;
+use crate::record::{ADD, CANCEL, RETIME, Record};
 use fault::PageFault;
 
 /// What an edit does.
@@ -37,9 +37,9 @@ impl EditKind {
         ensures { result ≡ kind_size (code_of self) }
     {
         match self {
-            EditKind::Add => 14,
-            EditKind::Cancel => 2,
-            EditKind::Retime => 10,
+            EditKind::Add => ADD,
+            EditKind::Cancel => CANCEL,
+            EditKind::Retime => RETIME,
         }
     }
 

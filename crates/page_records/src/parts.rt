@@ -1,14 +1,14 @@
 //! Counts and records looked at in place: what they are, or which fault they have.
 
-ghost use Rattle.std.specs.Prelude.{◌≡◌, ◌+◌, ◌<◌, ◌≤◌, length, drop, MatchResult};
+ghost use Rattle.std.specs.Prelude.{◌≡◌, drop};
 ghost use Rattle.fault.specs.declared.Section.TheVariants.{Names, Runs, Edits};
 ghost use Rattle.page_format.specs.Grammar.{limit, width};
-ghost use Rattle.page_format.specs.Reading.{lettered, name_of};
+ghost use Rattle.page_format.specs.Reading.{lettered};
 ghost use Rattle.page_records.specs.Steps.{counted};
 ghost use Rattle.page_records.specs.Takes.{First};
 
 use crate::kind::EditKind;
-use crate::record::Record;
+use crate::record::{ADD, Record};
 use fault::{PageFault, Section};
 
 /// The page from a byte on; nothing where the page ends before it.
@@ -66,7 +66,7 @@ fn name<'a>(s: &'a [u8]) -> Result<(Record<'a>, usize), PageFault>
     ensures { First Names s.now result }
 {
     let n = usize::from(*s.first().ok_or(PageFault::Short)?);
-    if n == 0 || n > 24 {
+    if !(1..=24).contains(&n) {
         return Err(PageFault::BadName);
     }
     let part = s.get(1..1 + n).ok_or(PageFault::Short)?;
@@ -80,8 +80,8 @@ fn name<'a>(s: &'a [u8]) -> Result<(Record<'a>, usize), PageFault>
 fn run<'a>(s: &'a [u8]) -> Result<(Record<'a>, usize), PageFault>
     ensures { First Runs s.now result }
 {
-    let part = s.get(..14).ok_or(PageFault::Short)?;
-    Ok((Record::Add(part), 14))
+    let part = s.get(..ADD).ok_or(PageFault::Short)?;
+    Ok((Record::Add(part), ADD))
 }
 
 /// The same of an edit.

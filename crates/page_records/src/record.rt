@@ -1,11 +1,18 @@
 //! The records of a page, each as its part of the caller's bytes, and what they say.
 
-ghost use Rattle.std.specs.Prelude.{◌≡◌, ◌+◌, ◌≤◌, length, take, drop};
+ghost use Rattle.std.specs.Prelude.{◌≡◌};
 ghost use Rattle.page_format.specs.Reading.{add_of, retime_of};
 ghost use Rattle.page_records.specs.Records.{add_in, edit_in};
 
 use page_format::{Edit, Retime};
 use run::Run;
+
+/// How many bytes the part of an add has.
+pub(crate) const ADD: usize = 14;
+/// How many bytes the part of a cancel has.
+pub(crate) const CANCEL: usize = 2;
+/// How many bytes the part of a retime has.
+pub(crate) const RETIME: usize = 10;
 
 /// A record of a page. Each case borrows its part of the page.
 #[derive(Clone, Copy)]
@@ -20,34 +27,28 @@ pub enum Record<'a> {
     Retime(&'a [u8]),
 }
 
-/// The N bytes from a place on.
-fn bytes_at<const N: usize>(s: &[u8], at: usize) -> [u8; N]
-    requires { at + N ≤ length s.now }
-    ensures { result ≡ take N (drop at s.now) }
-{
-    *s[at..].first_chunk().unwrap()
-}
-
-fn decode_add(part: &[u8; 14]) -> Run
+fn decode_add(part: &[u8; ADD]) -> Run
     ensures { result ≡ add_of part.now }
 {
+    let [n0, n1, from, to, s0, s1, s2, s3, e0, e1, e2, e3, f0, f1] = *part;
     Run {
-        number: u16::from_be_bytes(bytes_at(part, 0)),
-        from: part[2],
-        to: part[3],
-        start: u32::from_be_bytes(bytes_at(part, 4)),
-        end: u32::from_be_bytes(bytes_at(part, 8)),
-        fittings: u16::from_be_bytes(bytes_at(part, 12)),
+        number: u16::from_be_bytes([n0, n1]),
+        from,
+        to,
+        start: u32::from_be_bytes([s0, s1, s2, s3]),
+        end: u32::from_be_bytes([e0, e1, e2, e3]),
+        fittings: u16::from_be_bytes([f0, f1]),
     }
 }
 
-fn decode_retime(part: &[u8; 10]) -> Retime
+fn decode_retime(part: &[u8; RETIME]) -> Retime
     ensures { result ≡ retime_of part.now }
 {
+    let [n0, n1, s0, s1, s2, s3, e0, e1, e2, e3] = *part;
     Retime {
-        run: u16::from_be_bytes(bytes_at(part, 0)),
-        start: u32::from_be_bytes(bytes_at(part, 2)),
-        end: u32::from_be_bytes(bytes_at(part, 6)),
+        run: u16::from_be_bytes([n0, n1]),
+        start: u32::from_be_bytes([s0, s1, s2, s3]),
+        end: u32::from_be_bytes([e0, e1, e2, e3]),
     }
 }
 

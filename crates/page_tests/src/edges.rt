@@ -1,6 +1,6 @@
 //! Each limit and one past it, each truncation, each fault at its first possible place.
 
-use fault::{PageFault, Section};
+use fault::{Located, PageFault, Section};
 use page::check;
 use page_format::Counts;
 use std::alloc::{AllocError, Global};
@@ -9,15 +9,8 @@ use std::process::Abort;
 use std::test::Fail;
 
 /// The page is refused so, at that place.
-fn refuses(
-    rt: &impl Abort,
-    page: &[u8],
-    fault: PageFault,
-    section: Section,
-    record: u16,
-    byte: usize,
-) {
-    assert_eq!(rt; check(page), Err(fault.at(section, record, byte)));
+fn refuses(rt: &impl Abort, page: &[u8], fault: Located) {
+    assert_eq!(rt; check(page), Err(fault));
 }
 
 /// The page has so many records.
@@ -52,22 +45,20 @@ fn counts_at_their_limits(rt: HostRuntime) -> Result<(), Fail> {
     let high = PageFault::CountAboveLimit;
     has(&rt, &full_page(heap, 0, 0, 0)?, 0, 0, 0);
     has(&rt, &full_page(heap, 64, 1024, 2048)?, 64, 1024, 2048);
-    refuses(&rt, &full_page(heap, 65, 0, 0)?, high, Section::Names, 0, 0);
+    refuses(
+        &rt,
+        &full_page(heap, 65, 0, 0)?,
+        high.at(Section::Names, 0, 0),
+    );
     refuses(
         &rt,
         &full_page(heap, 2, 1025, 0)?,
-        high,
-        Section::Runs,
-        0,
-        5,
+        high.at(Section::Runs, 0, 5),
     );
     refuses(
         &rt,
         &full_page(heap, 0, 2, 2049)?,
-        high,
-        Section::Edits,
-        0,
-        31,
+        high.at(Section::Edits, 0, 31),
     );
     Ok(())
 }
@@ -80,34 +71,22 @@ fn names_at_their_limits(rt: HostRuntime) -> Result<(), Fail> {
     refuses(
         &rt,
         &one_name(heap, 0, 97)?,
-        PageFault::BadName,
-        Section::Names,
-        1,
-        1,
+        PageFault::BadName.at(Section::Names, 1, 1),
     );
     refuses(
         &rt,
         &one_name(heap, 25, 97)?,
-        PageFault::BadName,
-        Section::Names,
-        1,
-        1,
+        PageFault::BadName.at(Section::Names, 1, 1),
     );
     refuses(
         &rt,
         &one_name(heap, 1, 32)?,
-        PageFault::BadName,
-        Section::Names,
-        1,
-        1,
+        PageFault::BadName.at(Section::Names, 1, 1),
     );
     refuses(
         &rt,
         &one_name(heap, 24, 127)?,
-        PageFault::BadName,
-        Section::Names,
-        1,
-        1,
+        PageFault::BadName.at(Section::Names, 1, 1),
     );
     Ok(())
 }
@@ -133,54 +112,58 @@ fn every_truncation(rt: HostRuntime) {
     let small: &[u8] = SMALL;
     for n in 0..24 {
         let (section, record, byte) = cut_at(n);
-        refuses(&rt, &small[0..n], PageFault::Short, section, record, byte);
+        refuses(
+            &rt,
+            &small[0..n],
+            PageFault::Short.at(section, record, byte),
+        );
     }
     has(&rt, small, 1, 1, 1);
 }
 
 #[test]
 fn each_fault_at_its_first_place(rt: HostRuntime) {
-    refuses(&rt, b"", PageFault::Short, Section::Names, 0, 0);
-    refuses(&rt, b"A", PageFault::CountAboveLimit, Section::Names, 0, 0);
-    refuses(&rt, b"\x01\x00", PageFault::BadName, Section::Names, 1, 1);
+    refuses(&rt, b"", PageFault::Short.at(Section::Names, 0, 0));
+    refuses(
+        &rt,
+        b"A",
+        PageFault::CountAboveLimit.at(Section::Names, 0, 0),
+    );
+    refuses(
+        &rt,
+        b"\x01\x00",
+        PageFault::BadName.at(Section::Names, 1, 1),
+    );
     refuses(
         &rt,
         b"\x00\x00\x00\x00\x01\x00",
-        PageFault::EditKind,
-        Section::Edits,
-        1,
-        5,
+        PageFault::EditKind.at(Section::Edits, 1, 5),
     );
     refuses(
         &rt,
         b"\x00\x00\x00\x00\x00\x00",
-        PageFault::Excess,
-        Section::Edits,
-        0,
-        5,
+        PageFault::Excess.at(Section::Edits, 0, 5),
     );
 }
 
 #[test]
 fn length_before_short_and_byte_after(rt: HostRuntime) {
-    refuses(&rt, b"\x01\x19a", PageFault::BadName, Section::Names, 1, 1);
-    refuses(&rt, b"\x01\x18a", PageFault::Short, Section::Names, 1, 1);
-    refuses(&rt, b"\x01\x18 ", PageFault::Short, Section::Names, 1, 1);
+    refuses(
+        &rt,
+        b"\x01\x19a",
+        PageFault::BadName.at(Section::Names, 1, 1),
+    );
+    refuses(&rt, b"\x01\x18a", PageFault::Short.at(Section::Names, 1, 1));
+    refuses(&rt, b"\x01\x18 ", PageFault::Short.at(Section::Names, 1, 1));
     refuses(
         &rt,
         b"\x00\x00\x00\x00\x01\x04",
-        PageFault::EditKind,
-        Section::Edits,
-        1,
-        5,
+        PageFault::EditKind.at(Section::Edits, 1, 5),
     );
     refuses(
         &rt,
         b"\x00\x00\x00\x00\x01\x03",
-        PageFault::Short,
-        Section::Edits,
-        1,
-        5,
+        PageFault::Short.at(Section::Edits, 1, 5),
     );
 }
 
@@ -188,9 +171,13 @@ fn length_before_short_and_byte_after(rt: HostRuntime) {
 fn a_long_input_of_any_content(rt: HostRuntime) -> Result<(), Fail> {
     let mut zeros = Vec::new(rt.alloc());
     zeros.extend(repeat_n(0, 70_000))?;
-    refuses(&rt, &zeros, PageFault::Excess, Section::Edits, 0, 5);
+    refuses(&rt, &zeros, PageFault::Excess.at(Section::Edits, 0, 5));
     let mut ones = Vec::new(rt.alloc());
     ones.extend(repeat_n(255, 70_000))?;
-    refuses(&rt, &ones, PageFault::CountAboveLimit, Section::Names, 0, 0);
+    refuses(
+        &rt,
+        &ones,
+        PageFault::CountAboveLimit.at(Section::Names, 0, 0),
+    );
     Ok(())
 }

@@ -42,18 +42,20 @@ impl From<io::Error> for Trouble {
 /// What is read of the input; a longer one is cut here.
 const LONGEST: u64 = 65_536;
 
+/// Reads the first bytes of an input.
+fn read_first<R: Read + Drop>(input: R, page: &mut Vec<u8>) -> io::Result<()> {
+    input.take(LONGEST).read_to_end(page)?;
+    Ok(())
+}
+
 /// The first bytes of the file named as the argument, or of standard input.
 fn input(rt: &HostRuntime) -> io::Result<Vec<u8>> {
     let mut page = Vec::new(rt.alloc());
     let mut args = env::args(rt)?;
     let _ = args.next();
     match args.next() {
-        Some(path) => {
-            fs::open(rt, path)?.take(LONGEST).read_to_end(&mut page)?;
-        }
-        None => {
-            rt.stdin().take(LONGEST).read_to_end(&mut page)?;
-        }
+        Some(path) => read_first(fs::open(rt, path)?, &mut page)?,
+        None => read_first(rt.stdin(), &mut page)?,
     }
     Ok(page)
 }
@@ -62,14 +64,14 @@ fn input(rt: &HostRuntime) -> io::Result<Vec<u8>> {
 /// so that a reader at another one is refused.
 fn list<'a, S: Stage, L: FnMut(u16, Record<'a>) -> Result<(), Trouble>>(
     rt: &HostRuntime,
-    word: &str,
     reader: &mut Reader<'a, S>,
     mut line: L,
 ) -> Result<(), Trouble>
     requires { L.IsAlwaysCallable line }
 {
     let count = reader.count()?;
-    println!(rt; "{word} {count}")?;
+    let section = S::SECTION;
+    println!(rt; "{section} {count}")?;
     for k in 0..count {
         let record = reader.next()?.ok_or(Trouble::Unlisted)?;
         line(k, record)?;
@@ -89,9 +91,7 @@ fn say_name(rt: &HostRuntime, k: u16, record: Record) -> Result<(), Trouble> {
     let Record::Name(part) = record else {
         return Err(Trouble::Unlisted);
     };
-    let Ok(name) = std::str::from_utf8(part) else {
-        return Err(Trouble::Unlisted);
-    };
+    let name = std::str::from_utf8(part).map_err(|_| Trouble::Unlisted)?;
     println!(rt; "{k} {name}")?;
     Ok(())
 }
@@ -99,11 +99,11 @@ fn say_name(rt: &HostRuntime, k: u16, record: Record) -> Result<(), Trouble> {
 /// Lists a page that `check` found good.
 fn list_page(rt: &HostRuntime, page: &[u8], counts: Counts) -> Result<(), Trouble> {
     let mut names = AtNames::new(page);
-    list::<Names, _>(rt, "names", &mut names, |k, record| say_name(rt, k, record))?;
+    list::<Names, _>(rt, &mut names, |k, record| say_name(rt, k, record))?;
     let mut runs = names.step()?;
-    list::<Runs, _>(rt, "runs", &mut runs, |_, record| say(rt, record.add()))?;
+    list::<Runs, _>(rt, &mut runs, |_, record| say(rt, record.add()))?;
     let mut edits = runs.step()?;
-    list::<Edits, _>(rt, "edits", &mut edits, |_, record| say(rt, record.edit()))?;
+    list::<Edits, _>(rt, &mut edits, |_, record| say(rt, record.edit()))?;
     let size = edits.step()?.len();
     println!(rt; "page of {size} bytes: {counts}")?;
     Ok(())

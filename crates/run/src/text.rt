@@ -10,12 +10,14 @@ impl fmt::Display for Run {
     ghost output = { λ r. Some (run_text r) };
 
     fn fmt<W: fmt::Write>(&self, f: &mut fmt::Formatter<W>) -> fmt::Result {
-        let run = self.number;
-        let from = self.from;
-        let start = self.start;
-        let to = self.to;
-        let end = self.end;
-        let fittings = self.fittings;
-        write!(f, "{run} {from} {start} {to} {end} fit {fittings}")
+        let Run {
+            number,
+            from,
+            to,
+            start,
+            end,
+            fittings,
+        } = *self;
+        write!(f, "{number} {from} {start} {to} {end} fit {fittings}")
     }
 }
