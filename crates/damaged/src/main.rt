@@ -2,36 +2,32 @@
 //! line of standard output says what it is, its size and counts or its first fault.
 #![tactic(auto)]
 
+ghost use Rattle.std.specs.Prelude.{◌<◌, IfOk};
+
 use anyhow::anyhow;
 use page::check;
 use std::io::{BufRead, BufReader};
 
 /// The value of a small hexadecimal digit; std's `to_digit` takes capitals too.
-fn digit(c: u8) -> Option<u8> {
+fn digit(c: u8) -> anyhow::Result<u8>
+    ensures { IfOk result (λ d. d < 16) }
+{
     match c {
-        b'0'..=b'9' => Some(c - b'0'),
-        b'a'..=b'f' => Some(c - b'a' + 10),
-        _ => None,
+        b'0'..=b'9' => Ok(c - b'0'),
+        b'a'..=b'f' => Ok(c - b'a' + 10),
+        _ => Err(anyhow!("not a hexadecimal digit")),
     }
 }
 
 /// The bytes that a line of hexadecimal digits says.
 fn decode(rt: &HostRuntime, line: &str) -> anyhow::Result<Vec<u8>> {
     let mut page = Vec::new(rt.alloc());
-    let mut high = None;
-    for c in line.bytes() {
-        let Some(d) = digit(c) else {
-            return Err(anyhow!("not a hexadecimal digit"));
-        };
-        match high {
-            None => high = Some(d),
-            Some(h) => {
-                page.push((h & 15) * 16 + (d & 15))?;
-                high = None;
-            }
-        }
+    let (pairs, rest) = line.as_bytes().as_chunks::<2>();
+    for [high, low] in pairs {
+        page.push(digit(*high)? * 16 + digit(*low)?)?;
     }
-    if high.is_some() {
+    if let Some(c) = rest.first() {
+        digit(*c)?;
         return Err(anyhow!("half a byte"));
     }
     Ok(page)
