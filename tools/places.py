@@ -105,7 +105,7 @@ show("1c cases and comparisons by number", lines(r"^\s*[0-9][0-9_.=]* =>|== [0-9
 show("2 functions alike but for names, types and numbers", twins())
 show("2 structs", lines(r"^\s*(pub )?struct "))
 show("3 loops", lines(r"^\s*(while|loop|for)\b.*\{$"))
-show("4 impls of std's traits", lines(r"^impl.* for (?!Row)", r"impl.*(Monoid|Book) for"))
+show("4 impls of std's traits", lines(r"^impl.* for (?!Row)", r"impl.*(Semigroup|Monoid|Book) for"))
 show("4 conversions by hand", lines(r"fn \w*(number|plain|_of_number|from_|into_|to_)\w*\(", r"fn (from|try_from)\("))
 show("5 repeated clauses and parameters", repeated())
 show("6 buffers, lengths, places", lines(r"^\s*(pub(\(crate\))? )?\w+: (Vec<|&'a \[|usize,)|\b(copy_within|count: usize)\b"))

@@ -5,7 +5,7 @@ ghost use Rattle.monoid.specs.Deficits.{numbers, four, none, join, record_read, 
 ghost use Rattle.monoid.specs.Steps.{departs, arrives, of_step};
 ghost use Rattle.monoid.specs.DeficitsLemmas as Deficits;
 
-use crate::{DeficitPlain, DeficitSummary, Monoid};
+use crate::{DeficitPlain, DeficitSummary, Monoid, Semigroup};
 
 /// The highest count of a summary that is not overfull.
 const MOST: u32 = 65_535;
@@ -62,33 +62,10 @@ fn is_consistent(p: DeficitPlain) -> bool
     true
 }
 
-impl Monoid for DeficitSummary {
-    type Plain = DeficitPlain;
-
-    ghost neutral = { none };
-
+impl Semigroup for DeficitSummary {
     ghost joined = { join };
 
-    ghost reads = { record_read };
-
-    ghost written = { numbers };
-
-    ghost left = { Deficits.left };
-
-    ghost right = { Deficits.right };
-
     ghost assoc = { Deficits.assoc };
-
-    ghost back = { Deficits.back };
-
-    fn unit() -> DeficitSummary {
-        DeficitSummary {
-            count: 0,
-            sum: 0,
-            peak: 0,
-            place: 0,
-        }
-    }
 
     fn join(self, other: DeficitSummary) -> DeficitSummary {
         let count = self.count + other.count;
@@ -115,6 +92,31 @@ impl Monoid for DeficitSummary {
             sum,
             peak: reach as u32,
             place: self.count + other.place,
+        }
+    }
+}
+
+impl Monoid for DeficitSummary {
+    type Plain = DeficitPlain;
+
+    ghost neutral = { none };
+
+    ghost reads = { record_read };
+
+    ghost written = { numbers };
+
+    ghost left = { Deficits.left };
+
+    ghost right = { Deficits.right };
+
+    ghost back = { Deficits.back };
+
+    fn unit() -> DeficitSummary {
+        DeficitSummary {
+            count: 0,
+            sum: 0,
+            peak: 0,
+            place: 0,
         }
     }
 

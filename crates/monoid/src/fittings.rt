@@ -3,18 +3,26 @@
 ghost use Rattle.monoid.specs.Sets.{set_of, union};
 ghost use Rattle.monoid.specs.SetsLemmas as Sets;
 
-use crate::Monoid;
+use crate::{Monoid, Semigroup};
 
 /// A set of sixteen fittings: bit i is set where fitting i is in it.
 #[derive(Clone, Copy, PartialEq, Eq)]
 pub struct Fittings(pub u16);
 
+impl Semigroup for Fittings {
+    ghost joined = { union };
+
+    ghost assoc = { Sets.assoc };
+
+    fn join(self, other: Fittings) -> Fittings {
+        Fittings(self.0 | other.0)
+    }
+}
+
 impl Monoid for Fittings {
     type Plain = u16;
 
     ghost neutral = { set_of 0 };
-
-    ghost joined = { union };
 
     ghost reads = { set_of };
 
@@ -24,16 +32,10 @@ impl Monoid for Fittings {
 
     ghost right = { Sets.right };
 
-    ghost assoc = { Sets.assoc };
-
     ghost back = { Sets.back };
 
     fn unit() -> Fittings {
         Fittings(0)
-    }
-
-    fn join(self, other: Fittings) -> Fittings {
-        Fittings(self.0 | other.0)
     }
 
     fn from_plain(plain: u16) -> Fittings {

@@ -17,15 +17,13 @@ pub use seam::{Seam, Stop, Stretch};
 pub use semigroup::Semigroup;
 pub use summary::{DeficitPlain, DeficitSummary};
 
-/// A value with a unit and an associative join. Memory holds it as a plain record: the one made
-/// from a value reads back as that value, and any other reads as some value too. The law `back`
-/// ties the two conversions, which are functions of the trait for its sake: std's `From` has no law.
-pub trait Monoid: Sized + Copy {
+/// A semigroup with a unit. Memory holds a value as a plain record: the one made from a value reads
+/// back as that value, and any other reads as some value too. The law `back` ties the two
+/// conversions, which are functions of the trait for its sake: std's `From` has no law.
+pub trait Monoid: Semigroup {
     type Plain: Copy;
 
     ghost neutral: { Self };
-
-    ghost joined: { Self → Self → Self };
 
     ghost reads: { Self.Plain → Self };
 
@@ -35,10 +33,6 @@ pub trait Monoid: Sized + Copy {
     fn unit() -> Self
         ensures { result ≡ neutral };
 
-    /// This value, then the other.
-    fn join(self, other: Self) -> Self
-        ensures { result ≡ joined self other };
-
     /// The value that a plain record reads as.
     fn from_plain(plain: Self::Plain) -> Self
         ensures { result ≡ reads plain };
@@ -47,11 +41,9 @@ pub trait Monoid: Sized + Copy {
     fn plain(self) -> Self::Plain
         ensures { result ≡ written self };
 
-    ghost left: { (x : Self) → joined neutral x ≡ x };
+    ghost left: { (x : Self) → Self.joined neutral x ≡ x };
 
-    ghost right: { (x : Self) → joined x neutral ≡ x };
-
-    ghost assoc: { (x y z : Self) → joined (joined x y) z ≡ joined x (joined y z) };
+    ghost right: { (x : Self) → Self.joined x neutral ≡ x };
 
     ghost back: { (x : Self) → reads (written x) ≡ x };
 }

@@ -6,7 +6,7 @@ ghost use Rattle.monoid.specs.SemigroupsLemmas as Semigroups;
 
 use crate::Monoid;
 
-/// A value with an associative join, and with no unit of its own.
+/// A value with an associative join.
 pub trait Semigroup: Sized + Copy {
     ghost joined: { Self → Self → Self };
 
@@ -17,13 +17,26 @@ pub trait Semigroup: Sized + Copy {
     ghost assoc: { (x y z : Self) → joined (joined x y) z ≡ joined x (joined y z) };
 }
 
+/// `None` changes nothing, and two values join as they did.
+impl<S: Semigroup> Semigroup for Option<S> {
+    ghost joined = { with_unit S.joined };
+
+    ghost assoc = { Semigroups.assoc S.joined S.assoc };
+
+    fn join(self, other: Option<S>) -> Option<S> {
+        match (self, other) {
+            (None, _) => other,
+            (_, None) => self,
+            (Some(left), Some(right)) => Some(left.join(right)),
+        }
+    }
+}
+
 /// `None` is the unit. The plain record of a value is the value itself.
 impl<S: Semigroup> Monoid for Option<S> {
     type Plain = Option<S>;
 
     ghost neutral = { None };
-
-    ghost joined = { with_unit S.joined };
 
     ghost reads = { λ x. x };
 
@@ -33,20 +46,10 @@ impl<S: Semigroup> Monoid for Option<S> {
 
     ghost right = { Semigroups.right S.joined };
 
-    ghost assoc = { Semigroups.assoc S.joined S.assoc };
-
     ghost back = { Semigroups.back };
 
     fn unit() -> Option<S> {
         None
-    }
-
-    fn join(self, other: Option<S>) -> Option<S> {
-        match (self, other) {
-            (None, _) => other,
-            (_, None) => self,
-            (Some(left), Some(right)) => Some(left.join(right)),
-        }
     }
 
     fn from_plain(plain: Option<S>) -> Option<S> {

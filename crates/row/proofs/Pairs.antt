@@ -7,7 +7,8 @@ use Rattle.std.proofs.lemmas.Slice.{between_from_start}
 use Rattle.std.proofs.lemmas.Simd.{map-map}
 use Rattle.std.proofs.lemmas.Bool.{cases_lt}
 use Rattle.std.proofs.lemmas.Bool.Decides.{nat_tests}
-use Rattle.monoid.specs.declared.Monoid.{Ghosts}
+use Rattle.monoid.specs.declared.Monoid as Monoid
+use Rattle.monoid.specs.declared.semigroup.Semigroup as Semigroup
 use Rattle.monoid.specs.Folds.{total}
 use Rattle.book.specs.Entries.{ascending, held, value_of, inserted, removed, count_below, between, values, fold_between}
 use Rattle.book.proofs.Order.{strict}
@@ -57,7 +58,7 @@ module _ {P V : Type 0} (unit : V) (join : V → V → V) (reads : P → V) (es 
       sym (ap (λ l. total unit join (values l)) none)
 
 -- a row, and its memory after a change, which is first lent as a slice
-module _ {M P V : Type 0} {m : Ghosts M P} (reads : P → V) (r : Row M P m) (k place : ℕ) where
+module _ {M P V : Type 0} {m : Monoid.Ghosts M P} {s : Semigroup.Ghosts M} (reads : P → V) (r : Row M P m s) (k place : ℕ) where
   records : List (Entry P)
   records = take r.count (vec_items r.memory)
 

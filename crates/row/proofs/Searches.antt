@@ -11,7 +11,8 @@ use Rattle.book.specs.Entries.{ascending, held, count_below}
 use Rattle.book.proofs.Places.{below_yes, below_no_more}
 use Rattle.row.specs.declared.entry.Entry.{Entry}
 use Rattle.row.specs.declared.row.Row.{Row}
-use Rattle.monoid.specs.declared.Monoid.{Ghosts}
+use Rattle.monoid.specs.declared.Monoid as Monoid
+use Rattle.monoid.specs.declared.semigroup.Semigroup as Semigroup
 use Rattle.row.specs.Slots.{pair, pairs}
 use Rattle.row.specs.Rows.{Stands, Belongs}
 use Rattle.row.specs.Invariant.{is_rising}
@@ -44,7 +45,7 @@ module _ {P V : Type 0} (reads : P → V) where
   comparisons_rise k es up i j d le h = let l = keys_rise es up i j d le h in grind (arith, nat_tests)
 
   -- a binary search by key among a row's records ends where the key stands, or where it belongs
-  pub searched : {M : Type 0} {m : Ghosts M P} (r : Row M P m) (k : ℕ) (at : Result ℕ ℕ) → IsSearchInRange at (length (take r.count (vec_items r.memory))) → IsBinarySearchResult (λ e. nat_cmp e.key k) (take r.count (vec_items r.memory)) at → MatchResult at (Stands r k) (Belongs reads r k)
+  pub searched : {M : Type 0} {m : Monoid.Ghosts M P} {s : Semigroup.Ghosts M} (r : Row M P m s) (k : ℕ) (at : Result ℕ ℕ) → IsSearchInRange at (length (take r.count (vec_items r.memory))) → IsBinarySearchResult (λ e. nat_cmp e.key k) (take r.count (vec_items r.memory)) at → MatchResult at (Stands r k) (Belongs reads r k)
   searched r k (Ok at) in_range equal =
       let items = vec_items r.memory in
       let size : length (take r.count items) ≡ r.count = length-take-le r.count items (omega (arith, r.within, r.memory.ok.0)) in

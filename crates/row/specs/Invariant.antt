@@ -3,7 +3,8 @@ use Rattle.std.specs.Prelude.{◌≡◌, ◌≤◌, true, ◌&&◌, List, [], �
 use Rattle.std.proofs.Common.{ap, ◌∙◌, arith}
 use Rattle.std.proofs.lemmas.List.{length-map, length-take-le}
 use Rattle.book.specs.Entries.{ascending}
-use Rattle.monoid.specs.declared.Monoid.{Ghosts}
+use Rattle.monoid.specs.declared.Monoid as Monoid
+use Rattle.monoid.specs.declared.semigroup.Semigroup as Semigroup
 use Rattle.row.specs.declared.entry.Entry.{Entry}
 use Rattle.row.specs.declared.row.Row.{Row}
 use Rattle.row.specs.Slots.{pair, pairs, stored}
@@ -15,7 +16,7 @@ same_order f g [] = refl
 same_order f g (e ∷ []) = refl
 same_order f g (e ∷ x ∷ es) = ap (λ b. nat_lt e.key x.key && b) (same_order f g (x ∷ es))
 
-module _ {M P V : Type 0} {m : Ghosts M P} (reads : P → V) (r : Row M P m) where
+module _ {M P V : Type 0} {m : Monoid.Ghosts M P} {s : Semigroup.Ghosts M} (reads : P → V) (r : Row M P m s) where
   pub count_is : length (row_entries reads r) ≡ r.count
   count_is =
       let within = r.within in

@@ -7,10 +7,10 @@ pub returns-then-from-to : goal.returns-then-from-to
 returns-then-from-to g c = λ _.
     let m = g.M.Monoid in
     let row = c.args.self.now in
-    rw c.records.ensures at c.join_values.ensures ∙ fold_part m.neutral m.joined m.reads (take row.count (vec_items row.memory)) c.args.lo c.args.hi _ _ (is_rising m.reads row) c.place-from.ensures.below c.place-to.ensures.below c.if-from-to.true
+    rw c.records.ensures at c.join_values.ensures ∙ fold_part m.neutral g.M.Semigroup.joined m.reads (take row.count (vec_items row.memory)) c.args.lo c.args.hi _ _ (is_rising m.reads row) c.place-from.ensures.below c.place-to.ensures.below c.if-from-to.true
 
 pub returns-else-from-to : goal.returns-else-from-to
 returns-else-from-to g c = λ _.
     let m = g.M.Monoid in
     let row = c.args.self.now in
-    c.unit.ensures ∙ fold_none m.neutral m.joined m.reads (take row.count (vec_items row.memory)) c.args.lo c.args.hi _ _ (is_rising m.reads row) c.place-from.ensures.below c.place-to.ensures.below c.if-from-to.false
+    c.unit.ensures ∙ fold_none m.neutral g.M.Semigroup.joined m.reads (take row.count (vec_items row.memory)) c.args.lo c.args.hi _ _ (is_rising m.reads row) c.place-from.ensures.below c.place-to.ensures.below c.if-from-to.false
