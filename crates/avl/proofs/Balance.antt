@@ -2,7 +2,7 @@
 use Rattle.std.proofs.Common.{◌≡◌, ℕ, zero, suc, ◌+◌, ◌-◌, ◌<◌, ◌≤◌, max, ltb, ◌⊎◌, None, refl, ◌∙◌, inl, inr, ⊎_elim, arith}
 use Rattle.std.proofs.lemmas.Bool.{cond_both, cond-false, ltb-true, ltb-false, le-ltb, cases_lt}
 use Rattle.std.proofs.lemmas.Bool.Decides.{nat_tests}
-use Rattle.avl.specs.Tree.{Tree, leaf, node, height, count, Balanced, turn_right, turn_left, outwards_left, outwards_right, rebalanced, with_entry, first_cell, without_first, joined_sides, without_key, lookup, fewest}
+use Rattle.avl.specs.Tree.{Tree, leaf, node, height, count, Balanced, turn_right, turn_left, outwards_left, outwards_right, rebalanced, over, with_entry, first_cell, without_first, joined_sides, without_key, lookup, fewest}
 
 -- balanced, and of a height between
 pub record Fits {P : Type 0} (lo hi : ℕ) (t : Tree P) : Type 0 where
@@ -71,8 +71,8 @@ module _ {P : Type 0} (i k : ℕ) (v : P) (l r : Tree P) (b : Balanced (node i k
   pub left_shrank : (s : Tree P) → Fits (height l - 1) (height l) s → Fits (height (node i k v l r) - 1) (height (node i k v l r)) (rebalanced i k v s r)
   left_shrank s z = let n = b.0 in let f = turn_restores i k v s r z.balanced b.2 (omega (arith, z.high)) (omega (arith, z.low)) in record { balanced = f.balanced; low = omega (arith, f.low, f.ways, z.low, z.high); high = omega (arith, f.high, z.low, z.high) }
 
-  pub right_shrank : (s : Tree P) → Fits (height r - 1) (height r) s → (j x : ℕ) (y : P) → Fits (height (node i k v l r) - 1) (height (node i k v l r)) (rebalanced j x y l s)
-  right_shrank s z j x y = let n = b.0 in let f = turn_restores j x y l s b.1 z.balanced (omega (arith, z.low)) (omega (arith, z.high)) in record { balanced = f.balanced; low = omega (arith, f.low, f.ways, z.low, z.high); high = omega (arith, f.high, z.low, z.high) }
+  pub right_shrank : (c : ℕ × (ℕ × P)) (s : Tree P) → Fits (height r - 1) (height r) s → Fits (height (node i k v l r) - 1) (height (node i k v l r)) (over c l s)
+  right_shrank c s z = let n = b.0 in let f = turn_restores c.1.0 c.0 c.1.1 l s b.1 z.balanced (omega (arith, z.low)) (omega (arith, z.high)) in record { balanced = f.balanced; low = omega (arith, f.low, f.ways, z.low, z.high); high = omega (arith, f.high, z.low, z.high) }
 
 module _ {P : Type 0} where
   pub insert_fits : (n x : ℕ) (y : P) (t : Tree P) → Balanced t → Fits (height t) (height t + 1) (with_entry n x y t)
@@ -90,14 +90,14 @@ module _ {P : Type 0} where
   joined_fits i k v leaf r h = record { balanced = h.2; low = omega arith; high = omega arith }
   joined_fits i k v (node j x y a b) leaf h = record { balanced = h.1; low = omega arith; high = omega arith }
   joined_fits i k v (node j x y a b) (node m p q c d) h =
-      right_shrank i k v (node j x y a b) (node m p q c d) h (without_first m p q c d) (first_out_fits m p q c d h.2) (first_cell m p q c).1.0 (first_cell m p q c).0 (first_cell m p q c).1.1
+      right_shrank i k v (node j x y a b) (node m p q c d) h (first_cell m p q c) (without_first m p q c d) (first_out_fits m p q c d h.2)
 
   pub remove_fits : (x : ℕ) (t : Tree P) → Balanced t → Fits (height t - 1) (height t) (without_key x t)
   remove_fits x leaf h = record { balanced = tt; low = omega arith; high = omega arith }
   remove_fits x (node i k v l r) h =
       let Q : Tree P → Type 0 = λ t. Fits (height (node i k v l r) - 1) (height (node i k v l r)) t in
       cond_both (ltb x k) _ _ Q (λ _. left_shrank i k v l r h (without_key x l) (remove_fits x l h.1))
-      (λ _. cond_both (ltb k x) _ _ Q (λ _. right_shrank i k v l r h (without_key x r) (remove_fits x r h.2) i k v) (λ _. joined_fits i k v l r h))
+      (λ _. cond_both (ltb k x) _ _ Q (λ _. right_shrank i k v l r h (k, (i, v)) (without_key x r) (remove_fits x r h.2)) (λ _. joined_fits i k v l r h))
 
   -- a balanced tree of height h or more has the fewest entries of h, or more
   pub many : (t : Tree P) → Balanced t → (h : ℕ) → h ≤ height t → fewest h ≤ count t

@@ -1,11 +1,12 @@
 -- The cells of a tree that is turned and changed, and their order.
-use Rattle.std.proofs.Common.{◌≡◌, ℕ, ◌+◌, true, false, ltb, eqb, ◌∷◌, ◌++◌, map, refl, sym, ap, ◌∙◌, subst, append_assoc, append-nil, arith}
-use Rattle.std.proofs.lemmas.Bool.{cond_both, cond-true, cond-false, ltb-true, ltb-false, eq-eqb, ne_eqb}
+use Rattle.std.proofs.Common.{◌≡◌, ℕ, true, false, ltb, ◌∷◌, ◌++◌, map, refl, sym, ap, ◌∙◌, subst, append_assoc, append-nil, arith}
+use Rattle.std.proofs.lemmas.Bool.{cond_both, ltb-true, ltb-false}
+use Rattle.std.proofs.lemmas.Bool.Decides.{nat_tests}
 use Rattle.book.specs.Entries.{ascending, held, inserted, removed}
-use Rattle.book.proofs.Order.{Strict, above_more, strict, ascends}
-use Rattle.book.proofs.Edits.{inserted_ascends, removed_ascends, removed_unheld}
-use Rattle.avl.specs.Tree.{Tree, leaf, node, height, cells, entry_of, entries, InOrder, turn_right, turn_left, outwards_left, outwards_right, rebalanced, with_entry, first_cell, without_first, joined_sides, without_key}
-use Rattle.avl.proofs.Lists.{strict_join, strict_split, inserted_before, inserted_after, unheld_above, removed_before, removed_after, entries_inserted, entries_removed, entries_ascending}
+use Rattle.book.proofs.Order.{Strict, strict, ascends}
+use Rattle.book.proofs.Edits.{inserted_ascends, removed_ascends}
+use Rattle.avl.specs.Tree.{Tree, leaf, node, cells, entry_of, entries, InOrder, turn_right, turn_left, outwards_left, outwards_right, rebalanced, over, with_entry, first_cell, without_first, joined_sides, without_key}
+use Rattle.avl.proofs.Lists.{strict_join, strict_split, inserted_before, inserted_after, removed_before, removed_after, entries_inserted, entries_removed, entries_ascending}
 
 module _ {P : Type 0} where
   -- what is turned
@@ -21,21 +22,15 @@ module _ {P : Type 0} where
 
   cells_outwards_left : (t : Tree P) → cells (outwards_left t) ≡ cells t
   cells_outwards_left leaf = refl
-  cells_outwards_left (node i k v l r) = cond_both (ltb (height l) (height r)) _ _ (λ t. cells t ≡ cells (node i k v l r)) (λ _. cells_turn_left (node i k v l r)) (λ _. refl)
+  cells_outwards_left (node i k v l r) = grind (arith, nat_tests, cells_turn_left (node i k v l r))
 
   cells_outwards_right : (t : Tree P) → cells (outwards_right t) ≡ cells t
   cells_outwards_right leaf = refl
-  cells_outwards_right (node i k v l r) = cond_both (ltb (height r) (height l)) _ _ (λ t. cells t ≡ cells (node i k v l r)) (λ _. cells_turn_right (node i k v l r)) (λ _. refl)
+  cells_outwards_right (node i k v l r) = grind (arith, nat_tests, cells_turn_right (node i k v l r))
 
   pub cells_rebalanced : (i k : ℕ) (v : P) (l r : Tree P) → cells (rebalanced i k v l r) ≡ cells (node i k v l r)
   unfolding rebalanced
-  cells_rebalanced i k v l r =
-      let Q : Tree P → Type 0 = λ t. cells t ≡ cells (node i k v l r) in
-      cond_both (ltb (height r + 1) (height l)) _ _ Q
-      (λ _. cells_turn_right (node i k v (outwards_left l) r) ∙ ap (λ z. z ++ ((k, (i, v)) ∷ cells r)) (cells_outwards_left l))
-      (λ _. cond_both (ltb (height l + 1) (height r)) _ _ Q
-      (λ _. cells_turn_left (node i k v l (outwards_right r)) ∙ ap (λ z. cells l ++ ((k, (i, v)) ∷ z)) (cells_outwards_right r))
-      (λ _. refl))
+  cells_rebalanced i k v l r = grind (arith, nat_tests, cells_turn_right (node i k v (outwards_left l) r), cells_turn_left (node i k v l (outwards_right r)), cells_outwards_left l, cells_outwards_right r)
 
   -- the first cell comes out, and two sides are joined
   pub cells_first : (i k : ℕ) (v : P) (l r : Tree P) → cells (node i k v l r) ≡ first_cell i k v l ∷ cells (without_first i k v l r)
@@ -43,11 +38,14 @@ module _ {P : Type 0} where
   cells_first i k v (node j x y a b) r =
       ap (λ z. z ++ ((k, (i, v)) ∷ cells r)) (cells_first j x y a b) ∙ sym (ap (λ z. first_cell j x y a ∷ z) (cells_rebalanced i k v (without_first j x y a b) r))
 
+  cells_over : (c : ℕ × (ℕ × P)) (l r : Tree P) → cells (over c l r) ≡ cells l ++ (c ∷ cells r)
+  cells_over c l r = cells_rebalanced c.1.0 c.0 c.1.1 l r
+
   cells_joined : (l r : Tree P) → cells (joined_sides l r) ≡ cells l ++ cells r
   cells_joined leaf r = refl
   cells_joined (node i k v a b) leaf = sym (append-nil (cells (node i k v a b)))
   cells_joined (node i k v a b) (node j x y c d) =
-      cells_rebalanced (first_cell j x y c).1.0 (first_cell j x y c).0 (first_cell j x y c).1.1 (node i k v a b) (without_first j x y c d) ∙ ap (λ z. cells (node i k v a b) ++ z) (sym (cells_first j x y c d))
+      cells_over (first_cell j x y c) (node i k v a b) (without_first j x y c d) ∙ ap (λ z. cells (node i k v a b) ++ z) (sym (cells_first j x y c d))
 
   -- in order as a tree, and as a list
   pub in_order_strict : (t : Tree P) → InOrder t → Strict (cells t)
@@ -70,27 +68,17 @@ module _ {P : Type 0} where
   pub cells_with : (n x : ℕ) (y : P) (t : Tree P) → InOrder t → cells (with_entry n x y t) ≡ inserted x (n, y) (cells t)
   cells_with n x y leaf o = refl
   cells_with n x y (node i k v l r) o =
-      cond_both (ltb x k) _ _ (λ t. cells t ≡ inserted x (n, y) (cells (node i k v l r)))
-      (λ c. cells_rebalanced i k v (with_entry n x y l) r ∙ ap (λ z. z ++ ((k, (i, v)) ∷ cells r)) (cells_with n x y l o.2) ∙ sym (inserted_before x (n, y) (cells l) (cells r) (k, (i, v)) (ltb-true x k c)))
-      (λ c. cells_rebalanced i k v l (with_entry n x y r) ∙ ap (λ z. cells l ++ ((k, (i, v)) ∷ z)) (cells_with n x y r o.3) ∙ sym (inserted_after x (n, y) (cells l) (cells r) (k, (i, v)) o.0 (ltb-false x k c)))
+      let e : ℕ × (ℕ × P) = (k, (i, v)) in
+      grind (arith, nat_tests, cells_rebalanced i k v (with_entry n x y l) r, cells_rebalanced i k v l (with_entry n x y r), cells_with n x y l o.2, cells_with n x y r o.3, inserted_before x (n, y) (cells l) (cells r) e, inserted_after x (n, y) (cells l) (cells r) e o.0)
 
   -- a key taken out
   pub cells_without : (x : ℕ) (t : Tree P) → InOrder t → cells (without_key x t) ≡ removed x (cells t)
   cells_without x leaf o = refl
   cells_without x (node i k v l r) o =
       let e : ℕ × (ℕ × P) = (k, (i, v)) in
-      let Q : Tree P → Type 0 = λ t. cells t ≡ removed x (cells l ++ (e ∷ cells r)) in
-      cond_both (ltb x k) _ _ Q
-      (λ c. let lt = ltb-true x k c in
-      cells_rebalanced i k v (without_key x l) r ∙ ap (λ z. z ++ (e ∷ cells r)) (cells_without x l o.2)
-      ∙ sym (removed_before x (cells l) (e ∷ cells r) (removed_unheld x (e ∷ cells r) (unheld_above x (e ∷ cells r) (lt, above_more x k (cells r) (omega arith) o.1)))))
-      (λ c. cond_both (ltb k x) _ _ Q
-      (λ d. let lt = ltb-true k x d in
-      cells_rebalanced i k v l (without_key x r) ∙ ap (λ z. cells l ++ (e ∷ z)) (cells_without x r o.3)
-      ∙ sym (removed_after x k (cells l) (e ∷ cells r) o.0 (omega arith) ∙ ap (λ z. cells l ++ z) (cond-false (eqb k x) _ _ (ne_eqb k x (omega arith)))))
-      (λ d. let le = ltb-false x k c in let ge = ltb-false k x d in
-      cells_joined l r
-      ∙ sym (removed_after x k (cells l) (e ∷ cells r) o.0 (omega arith) ∙ ap (λ z. cells l ++ z) (cond-true (eqb k x) _ _ (eq-eqb k x (omega arith))))))
+      cond_both (ltb x k) _ _ (λ t. cells t ≡ removed x (cells l ++ (e ∷ cells r)))
+      (λ c. cells_rebalanced i k v (without_key x l) r ∙ ap (λ z. z ++ (e ∷ cells r)) (cells_without x l o.2) ∙ sym (removed_before x (cells l) (cells r) e (ltb-true x k c) o.1))
+      (λ c. let le = ltb-false x k c in grind (arith, nat_tests, cells_rebalanced i k v l (without_key x r), cells_joined l r, cells_without x r o.3, removed_after x k (cells l) (e ∷ cells r) o.0 le))
 
   pub entries_with : (n x : ℕ) (y : P) (t : Tree P) → InOrder t → entries (with_entry n x y t) ≡ inserted x y (entries t)
   entries_with n x y t o = ap (map entry_of) (cells_with n x y t o) ∙ entries_inserted x n y (cells t)

@@ -52,9 +52,7 @@ module _ {M : Type 0} (unit : M) (join : M → M → M) (m : IsMonoid unit join)
 
   pub total_is : (t : Tree M) → fold_all unit join t ≡ fold_of (entries t)
   total_is leaf = refl
-  total_is (node i k v l r) =
-      ap (λ z. join z (join v (fold_all unit join r))) (total_is l) ∙ ap (λ z. join (fold_of (entries l)) (join v z)) (total_is r)
-      ∙ sym (ap fold_of (entries_node i k v l r) ∙ fold_around k v (entries l) (entries r))
+  total_is (node i k v l r) = grind (arith, total_is l, total_is r, entries_node i k v l r, fold_around k v (entries l) (entries r))
 
   pub total_turned : (i k : ℕ) (v : M) (l r : Tree M) → fold_all unit join (rebalanced i k v l r) ≡ fold_all unit join (node i k v l r)
   total_turned i k v l r = total_is (rebalanced i k v l r) ∙ ap (λ cs. fold_of (map entry_of cs)) (cells_rebalanced i k v l r) ∙ sym (total_is (node i k v l r))

@@ -1,11 +1,12 @@
 -- Entries before a key, the entry at it, and entries after it; and cells as entries.
-use Rattle.std.proofs.Common.{◌≡◌, ℕ, zero, suc, ◌+◌, ◌<◌, ◌≤◌, true, false, cond, ltb, eqb, List, [], ◌∷◌, ◌++◌, map, length, option_map, slice_get, Some, None, refl, ap, arith}
+use Rattle.std.proofs.Common.{◌≡◌, ℕ, zero, suc, ◌+◌, ◌<◌, ◌≤◌, true, false, cond, ltb, eqb, List, [], ◌∷◌, ◌++◌, map, length, option_map, slice_get, Some, refl, ap, arith}
 use Rattle.std.specs.List.{AllByRecursion as All}
 use Rattle.std.proofs.lemmas.Bool.Decides.{nat_tests}
 use Rattle.std.proofs.lemmas.List.Sums.{sum_by-cons}
 use Rattle.book.specs.Entries.{ascending, held, value_of, inserted, removed, count_below}
-use Rattle.book.proofs.Order.{Above, Strict}
-use Rattle.book.proofs.Places.{below_yes}
+use Rattle.book.proofs.Order.{Above, Strict, above_more}
+use Rattle.book.proofs.Edits.{value_above}
+use Rattle.book.proofs.Places.{below_yes, below_first}
 use Rattle.avl.specs.Tree.{entry_of}
 
 module _ {A : Type 0} (Q : A → Type 0) where
@@ -62,22 +63,22 @@ module _ {V : Type 0} where
   inserted_after k v (x ∷ xs) ys e u h = grind (arith, nat_tests, u.0, inserted_after k v xs ys e u.1 h)
 
   -- an entry taken out
-  pub unheld_above : (k : ℕ) (es : List (ℕ × V)) → Above k es → held k es ≡ false
-  unheld_above k [] a = refl
-  unheld_above k (e ∷ es) a = grind (arith, nat_tests, a.0, unheld_above k es a.1)
+  removed_none : (k a : ℕ) (es : List (ℕ × V)) → k ≤ a → Above a es → removed k es ≡ es
+  removed_none k a [] h up = refl
+  removed_none k a (e ∷ es) h up = grind (arith, nat_tests, up.0, removed_none k a es h up.1)
 
-  pub removed_before : (k : ℕ) (xs zs : List (ℕ × V)) → removed k zs ≡ zs → removed k (xs ++ zs) ≡ removed k xs ++ zs
-  removed_before k [] zs h = h
-  removed_before k (x ∷ xs) zs h = grind (arith, nat_tests, removed_before k xs zs h)
+  pub removed_before : (k : ℕ) (xs ys : List (ℕ × V)) (e : ℕ × V) → k < e.0 → Above e.0 ys → removed k (xs ++ (e ∷ ys)) ≡ removed k xs ++ (e ∷ ys)
+  removed_before k [] ys e h up = grind (arith, nat_tests, removed_none k e.0 ys (omega arith) up)
+  removed_before k (x ∷ xs) ys e h up = grind (arith, nat_tests, removed_before k xs ys e h up)
 
   pub removed_after : (k a : ℕ) (xs zs : List (ℕ × V)) → Under a xs → a ≤ k → removed k (xs ++ zs) ≡ xs ++ removed k zs
   removed_after k a [] zs u h = refl
   removed_after k a (x ∷ xs) zs u h = grind (arith, nat_tests, u.0, removed_after k a xs zs u.1 h)
 
   -- the value at a key
-  pub value_before : (k : ℕ) (xs zs : List (ℕ × V)) → value_of k zs ≡ None → value_of k (xs ++ zs) ≡ value_of k xs
-  value_before k [] zs h = h
-  value_before k (x ∷ xs) zs h = grind (arith, nat_tests, value_before k xs zs h)
+  pub value_before : (k : ℕ) (xs ys : List (ℕ × V)) (e : ℕ × V) → k < e.0 → Above e.0 ys → value_of k (xs ++ (e ∷ ys)) ≡ value_of k xs
+  value_before k [] ys e h up = grind (arith, nat_tests, value_above k ys (above_more k e.0 ys (omega arith) up))
+  value_before k (x ∷ xs) ys e h up = grind (arith, nat_tests, value_before k xs ys e h up)
 
   pub value_after : (k a : ℕ) (xs zs : List (ℕ × V)) → Under a xs → a ≤ k → value_of k (xs ++ zs) ≡ value_of k zs
   value_after k a [] zs u h = refl
@@ -88,9 +89,9 @@ module _ {V : Type 0} where
   below_after k a [] zs u h = omega arith
   below_after k a (x ∷ xs) zs u h = omega (arith, below_yes k x (xs ++ zs) (omega (arith, u.0)), below_after k a xs zs u.1 h)
 
-  pub below_before : (k : ℕ) (xs zs : List (ℕ × V)) → count_below k zs ≡ 0 → count_below k (xs ++ zs) ≡ count_below k xs
-  below_before k [] zs h = h
-  below_before k (x ∷ xs) zs h = grind (arith, sum_by-cons (λ y. cond (ltb y.0 k) 1 0) x (xs ++ zs), sum_by-cons (λ y. cond (ltb y.0 k) 1 0) x xs, below_before k xs zs h)
+  pub below_before : (k : ℕ) (xs ys : List (ℕ × V)) (e : ℕ × V) → k ≤ e.0 → Above e.0 ys → count_below k (xs ++ (e ∷ ys)) ≡ count_below k xs
+  below_before k [] ys e h up = below_first k e ys h up
+  below_before k (x ∷ xs) ys e h up = grind (arith, sum_by-cons (λ y. cond (ltb y.0 k) 1 0) x (xs ++ (e ∷ ys)), sum_by-cons (λ y. cond (ltb y.0 k) 1 0) x xs, below_before k xs ys e h up)
 
   -- where an entry is put in, and taken out
   pub record PutIn (k : ℕ) (v : V) (es : List (ℕ × V)) : Type 0 where

@@ -1,11 +1,11 @@
 -- Look-ups, counts and places.
-use Rattle.std.proofs.Common.{◌≡◌, ℕ, ◌+◌, ◌-◌, true, ltb, eqb, [], ◌∷◌, ◌++◌, length, length-append, option_map, slice_get, is_some, Option, Some, refl, sym, ap, ◌∙◌, append_assoc, arith}
-use Rattle.std.proofs.lemmas.Bool.{cond_both, cond-true, cond-false, ltb-true, ltb-false, eq-eqb, ne_eqb}
+use Rattle.std.proofs.Common.{◌≡◌, ℕ, ◌≤◌, ◌<◌, List, ◌+◌, ◌-◌, true, [], ◌∷◌, length, length-append, option_map, slice_get, is_some, Some, refl, sym, ap, ◌∙◌, arith}
+use Rattle.std.proofs.lemmas.Bool.Decides.{nat_tests}
 use Rattle.std.proofs.lemmas.List.{length-map}
 use Rattle.book.specs.Entries.{held, value_of, count_below}
-use Rattle.book.proofs.Order.{above_more, ascends}
-use Rattle.book.proofs.Edits.{value_above, length_inserted, length_removed}
-use Rattle.book.proofs.Places.{below_yes, below_first, value_place, held_value}
+use Rattle.book.proofs.Order.{ascends}
+use Rattle.book.proofs.Edits.{length_inserted, length_removed}
+use Rattle.book.proofs.Places.{below_yes, value_place, held_value}
 use Rattle.avl.specs.Tree.{Tree, leaf, node, count, cells, entry_of, entries, InOrder, with_entry, without_key, lookup, below, cell_at}
 use Rattle.avl.proofs.Lists.{value_before, value_after, below_before, below_after, get_before, get_after, get_map, entries_held, entries_value, entries_below}
 use Rattle.avl.proofs.Cells.{in_order_strict, entries_with, entries_without}
@@ -16,15 +16,7 @@ module _ {P : Type 0} where
   lookup_cells x leaf o = refl
   lookup_cells x (node i k v l r) o =
       let e : ℕ × (ℕ × P) = (k, (i, v)) in
-      let Q : Option (ℕ × P) → Type 0 = λ u. u ≡ value_of x (cells l ++ (e ∷ cells r)) in
-      cond_both (ltb x k) _ _ Q
-      (λ c. let lt = ltb-true x k c in
-      lookup_cells x l o.2 ∙ sym (value_before x (cells l) (e ∷ cells r) (value_above x (e ∷ cells r) (lt, above_more x k (cells r) (omega arith) o.1))))
-      (λ c. cond_both (ltb k x) _ _ Q
-      (λ d. let lt = ltb-true k x d in
-      lookup_cells x r o.3 ∙ sym (value_after x k (cells l) (e ∷ cells r) o.0 (omega arith) ∙ cond-false (eqb k x) _ _ (ne_eqb k x (omega arith))))
-      (λ d. let le = ltb-false x k c in let ge = ltb-false k x d in
-      sym (value_after x k (cells l) (e ∷ cells r) o.0 (omega arith) ∙ cond-true (eqb k x) _ _ (eq-eqb k x (omega arith)))))
+      grind (arith, nat_tests, lookup_cells x l o.2, lookup_cells x r o.3, λ (h : x < k). value_before x (cells l) (cells r) e h o.1, λ (h : k ≤ x). value_after x k (cells l) (e ∷ cells r) o.0 h)
 
   pub lookup_value : (x : ℕ) (t : Tree P) → InOrder t → option_map (λ c. c.1) (lookup x t) ≡ value_of x (entries t)
   lookup_value x t o = ap (option_map (λ c. c.1)) (lookup_cells x t o) ∙ sym (entries_value x (cells t))
@@ -51,9 +43,7 @@ module _ {P : Type 0} where
   below_cells x leaf o = refl
   below_cells x (node i k v l r) o =
       let e : ℕ × (ℕ × P) = (k, (i, v)) in
-      cond_both (ltb k x) _ _ (λ n. n ≡ count_below x (cells l ++ (e ∷ cells r)))
-      (λ c. let lt = ltb-true k x c in omega (arith, below_cells x r o.3, count_cells l, below_after x k (cells l) (e ∷ cells r) o.0 (omega arith), below_yes x e (cells r) lt))
-      (λ c. below_cells x l o.2 ∙ sym (below_before x (cells l) (e ∷ cells r) (below_first x e (cells r) (ltb-false k x c) o.1)))
+      grind (arith, nat_tests, below_cells x l o.2, below_cells x r o.3, count_cells l, λ (h : k < x). below_after x k (cells l) (e ∷ cells r) o.0 (omega arith), below_yes x e (cells r), λ (h : x ≤ k). below_before x (cells l) (cells r) e h o.1)
 
   pub below_entries : (x : ℕ) (t : Tree P) → InOrder t → below x t ≡ count_below x (entries t)
   below_entries x t o = below_cells x t o ∙ sym (entries_below x (cells t))
@@ -61,15 +51,8 @@ module _ {P : Type 0} where
   at_cells : (n : ℕ) (t : Tree P) → cell_at n t ≡ slice_get (cells t) n
   at_cells n leaf = refl
   at_cells n (node i k v l r) =
-      let e : ℕ × (ℕ × P) = (k, (i, v)) in
-      let cl = count_cells l in
-      let Q : Option (ℕ × (ℕ × P)) → Type 0 = λ u. u ≡ slice_get (cells l ++ (e ∷ cells r)) n in
-      cond_both (ltb n (count l)) _ _ Q
-      (λ c. let lt = ltb-true n (count l) c in at_cells n l ∙ sym (get_before (cells l) (e ∷ cells r) n (omega arith)))
-      (λ c. cond_both (ltb (count l) n) _ _ Q
-      (λ d. let lt = ltb-true (count l) n d in
-      at_cells (n - (count l + 1)) r ∙ sym (get_after (cells l ++ (e ∷ [])) (cells r) n (n - (count l + 1)) (omega (arith, length-append (cells l) (e ∷ [])))) ∙ ap (λ z. slice_get z n) (append_assoc (cells l) (e ∷ []) (cells r)))
-      (λ d. let le = ltb-false n (count l) c in let ge = ltb-false (count l) n d in sym (get_after (cells l) (e ∷ cells r) n 0 (omega arith))))
+      let es : List (ℕ × (ℕ × P)) = (k, (i, v)) ∷ cells r in
+      grind (arith, nat_tests, count_cells l, at_cells n l, at_cells (n - (count l + 1)) r, get_before (cells l) es n, get_after (cells l) es n (n - count l), get_after ((k, (i, v)) ∷ []) (cells r) (n - count l) (n - (count l + 1)))
 
   pub at_entries : (n : ℕ) (t : Tree P) → option_map entry_of (cell_at n t) ≡ slice_get (entries t) n
   at_entries n t = ap (option_map entry_of) (at_cells n t) ∙ sym (get_map entry_of (cells t) n)

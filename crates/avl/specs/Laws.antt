@@ -47,12 +47,12 @@ abbrev pub TurnKeepsCells : Type 0 → Type 0
 TurnKeepsCells P = (i k : ℕ) (v : P) (l r : Tree P) → cells (rebalanced i k v l r) ≡ cells (node i k v l r)
 
 pub record InsertPutsIn (P : Type 0) : Type 0 where
-  pub cells_too : (n x : ℕ) (y : P) (t : Tree P) → InOrder t → cells (with_entry n x y t) ≡ inserted x (n, y) (cells t)
-  pub entries_then : (n x : ℕ) (y : P) (t : Tree P) → InOrder t → entries (with_entry n x y t) ≡ inserted x y (entries t)
+  pub on_cells : (n x : ℕ) (y : P) (t : Tree P) → InOrder t → cells (with_entry n x y t) ≡ inserted x (n, y) (cells t)
+  pub on_entries : (n x : ℕ) (y : P) (t : Tree P) → InOrder t → entries (with_entry n x y t) ≡ inserted x y (entries t)
 
 pub record RemoveTakesOut (P : Type 0) : Type 0 where
-  pub cells_too : (x : ℕ) (t : Tree P) → InOrder t → cells (without_key x t) ≡ removed x (cells t)
-  pub entries_then : (x : ℕ) (t : Tree P) → InOrder t → entries (without_key x t) ≡ removed x (entries t)
+  pub on_cells : (x : ℕ) (t : Tree P) → InOrder t → cells (without_key x t) ≡ removed x (cells t)
+  pub on_entries : (x : ℕ) (t : Tree P) → InOrder t → entries (without_key x t) ≡ removed x (entries t)
 
 abbrev pub FirstComesOut : Type 0 → Type 0
 FirstComesOut P = (i k : ℕ) (v : P) (l r : Tree P) → cells (node i k v l r) ≡ first_cell i k v l ∷ cells (without_first i k v l r)
@@ -130,8 +130,16 @@ abbrev pub grown : ℕ → Tree ℕ
 grown zero = leaf
 grown (suc n) = with_entry n n (10 * n) (grown n)
 
--- seven keys make a full tree; where its top goes, the cell of the next key takes its place
-abbrev pub WorkedTrees : Type 0
-WorkedTrees =
-    let low : Tree ℕ = node 1 1 10 (node 0 0 0 leaf leaf) (node 2 2 20 leaf leaf) in
-    (grown 7 ≡ node 3 3 30 low (node 5 5 50 (node 4 4 40 leaf leaf) (node 6 6 60 leaf leaf))) × (without_key 3 (grown 7) ≡ node 4 4 40 low (node 5 5 50 leaf (node 6 6 60 leaf leaf)))
+abbrev pub one : (key : ℕ) → Tree ℕ
+one k = node k k (10 * k) leaf leaf
+
+pub record WorkedTrees : Type 0 where
+  pub full : grown 7 ≡ node 3 3 30 (node 1 1 10 (one 0) (one 2)) (node 5 5 50 (one 4) (one 6))
+  -- the cell of the next key takes the place of the top
+  pub top_out : without_key 3 (grown 7) ≡ node 4 4 40 (node 1 1 10 (one 0) (one 2)) (node 5 5 50 leaf (one 6))
+  -- the key 1 comes last, between the others, and two turns bring it to the top
+  pub two_turns : with_entry 1 1 10 (with_entry 2 2 20 (one 0)) ≡ node 1 1 10 (one 0) (one 2)
+  pub found : lookup 5 (grown 7) ≡ Some (5, 50)
+  pub not_found : lookup 7 (grown 7) ≡ None
+  pub place : (below 5 (grown 7) ≡ 5) × (cell_at 5 (grown 7) ≡ Some (5, (5, 50)))
+  pub sums : (fold_all 0 (λ a b. a + b) (grown 7) ≡ 210) × (fold_range 0 (λ a b. a + b) 2 5 (grown 7) ≡ 90)

@@ -75,6 +75,10 @@ outwards_right (node i k v l r) = cond (nat_lt (height r) (height l)) (turn_righ
 unfoldable pub rebalanced : {P : Type 0} → (index key : ℕ) → P → (left right : Tree P) → Tree P
 rebalanced i k v l r = cond (nat_lt (height r + 1) (height l)) (turn_right (node i k v (outwards_left l) r)) (cond (nat_lt (height l + 1) (height r)) (turn_left (node i k v l (outwards_right r))) (node i k v l r))
 
+-- a cell over two sides
+abbrev pub over : {P : Type 0} → ℕ × (ℕ × P) → (left right : Tree P) → Tree P
+over c l r = rebalanced c.1.0 c.0 c.1.1 l r
+
 -- the tree with an entry in the cell n
 abbrev pub with_entry : {P : Type 0} → (n key : ℕ) → P → Tree P → Tree P
 with_entry n x y leaf = node n x y leaf leaf
@@ -94,7 +98,7 @@ without_first i k v (node j x y a b) r = rebalanced i k v (without_first j x y a
 abbrev pub joined_sides : {P : Type 0} → (left right : Tree P) → Tree P
 joined_sides leaf r = r
 joined_sides (node i k v a b) leaf = node i k v a b
-joined_sides (node i k v a b) (node j x y c d) = rebalanced (first_cell j x y c).1.0 (first_cell j x y c).0 (first_cell j x y c).1.1 (node i k v a b) (without_first j x y c d)
+joined_sides (node i k v a b) (node j x y c d) = over (first_cell j x y c) (node i k v a b) (without_first j x y c d)
 
 -- the tree without a key
 abbrev pub without_key : {P : Type 0} → (key : ℕ) → Tree P → Tree P

@@ -162,7 +162,8 @@ pub fn front_is_first_entries<M>()
     ensures { FrontIsFirstEntries M }
 {}
 
-/// Small trees, computed: seven keys put in one after another, and the top taken out.
+/// Small trees, computed: seven keys put in one after another, the top taken out, what is found and
+/// what it adds up to, and three keys that want two turns.
 pub fn worked_trees()
     ensures { WorkedTrees }
 {}
