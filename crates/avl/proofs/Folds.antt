@@ -1,8 +1,7 @@
 -- The fold of a range of keys, by the totals of whole sides.
-use Rattle.std.proofs.Common.{◌≡◌, ℕ, ◌-◌, ◌<◌, ◌≤◌, ltb, List, [], ◌∷◌, ◌++◌, map, take, refl, sym, ap, ◌∙◌, arith}
+use Rattle.std.proofs.Common.{◌≡◌, ℕ, ◌-◌, ◌<◌, ◌≤◌, List, [], ◌∷◌, ◌++◌, map, take, refl, sym, ap, ◌∙◌, arith}
 use Rattle.std.specs.List.{AllByRecursion as All}
 use Rattle.std.proofs.ByRecursion.{All-weaker}
-use Rattle.std.proofs.lemmas.Bool.{cond_both, ltb-true, ltb-false}
 use Rattle.std.proofs.lemmas.Bool.Decides.{nat_tests}
 use Rattle.std.proofs.lemmas.List.{map-append}
 use Rattle.monoid.specs.Folds.{total}
@@ -78,31 +77,22 @@ module _ {M : Type 0} (unit : M) (join : M → M → M) (m : IsMonoid unit join)
   from_is lo hi a leaf h o u = refl
   from_is lo hi a (node i k v l r) h o u =
       let up = all_back (λ c. c.0 < a) (cells l) ((k, (i, v)) ∷ cells r) u in
-      let top = up.0 in
-      cond_both (ltb k lo) _ _ (λ z. z ≡ fold_between unit join lo hi (entries (node i k v l r)))
-      (λ c. from_is lo hi a r h o.3 up.1 ∙ sym (range_after lo hi i k v l r (ltb-true k lo c) o.0))
-      (λ c. let le = ltb-false k lo c in
-      range_around lo hi i k v l r (fold_from unit join lo l) (fold_all unit join r) le (omega arith) (from_is lo hi k l (omega arith) o.2 o.0) (side_is lo hi a r h (All-weaker (λ c. k < c.0) (λ c. lo ≤ c.0) (λ c b. omega arith) (cells r) o.1) up.1))
+      let under = up.0 in
+      let low = λ (c : lo ≤ k). All-weaker (λ x. k < x.0) (λ x. lo ≤ x.0) (λ x b. omega arith) (cells r) o.1 in
+      grind (arith, nat_tests, from_is lo hi a r h o.3 up.1, λ (c : k < lo). range_after lo hi i k v l r c o.0, λ (c : lo ≤ k). range_around lo hi i k v l r _ _ c (omega arith) (from_is lo hi k l (omega arith) o.2 o.0) (side_is lo hi a r h (low c) up.1))
 
   pub to_is : (lo hi : ℕ) (t : Tree M) → InOrder t → All (λ c. lo ≤ c.0) (cells t) → fold_to unit join hi t ≡ fold_between unit join lo hi (entries t)
   to_is lo hi leaf o low = refl
   to_is lo hi (node i k v l r) o low =
       let left = all_front (λ c. lo ≤ c.0) (cells l) ((k, (i, v)) ∷ cells r) low in
       let rest = all_back (λ c. lo ≤ c.0) (cells l) ((k, (i, v)) ∷ cells r) low in
-      cond_both (ltb k hi) _ _ (λ z. z ≡ fold_between unit join lo hi (entries (node i k v l r)))
-      (λ c. let lt = ltb-true k hi c in
-      range_around lo hi i k v l r (fold_all unit join l) (fold_to unit join hi r) rest.0 lt (side_is lo hi k l (omega arith) left o.0) (to_is lo hi r o.3 rest.1))
-      (λ c. to_is lo hi l o.2 left ∙ sym (range_before lo hi i k v l r (ltb-false k hi c) o.1))
+      grind (arith, nat_tests, to_is lo hi l o.2 left, λ (c : hi ≤ k). range_before lo hi i k v l r c o.1, λ (c : k < hi). range_around lo hi i k v l r _ _ rest.0 c (side_is lo hi k l (omega arith) left o.0) (to_is lo hi r o.3 rest.1))
 
   pub range_is : (lo hi : ℕ) (t : Tree M) → InOrder t → fold_range unit join lo hi t ≡ fold_between unit join lo hi (entries t)
   range_is lo hi leaf o = refl
   range_is lo hi (node i k v l r) o =
-      let Q : M → Type 0 = λ z. z ≡ fold_between unit join lo hi (entries (node i k v l r)) in
-      cond_both (ltb k lo) _ _ Q (λ c. range_is lo hi r o.3 ∙ sym (range_after lo hi i k v l r (ltb-true k lo c) o.0))
-      (λ c. let le = ltb-false k lo c in cond_both (ltb k hi) _ _ Q
-      (λ d. let lt = ltb-true k hi d in
-      range_around lo hi i k v l r (fold_from unit join lo l) (fold_to unit join hi r) le lt (from_is lo hi k l (omega arith) o.2 o.0) (to_is lo hi r o.3 (All-weaker (λ c. k < c.0) (λ c. lo ≤ c.0) (λ c b. omega arith) (cells r) o.1)))
-      (λ d. range_is lo hi l o.2 ∙ sym (range_before lo hi i k v l r (ltb-false k hi d) o.1)))
+      let low = λ (c : lo ≤ k). All-weaker (λ x. k < x.0) (λ x. lo ≤ x.0) (λ x b. omega arith) (cells r) o.1 in
+      grind (arith, nat_tests, range_is lo hi l o.2, range_is lo hi r o.3, λ (c : k < lo). range_after lo hi i k v l r c o.0, λ (c : hi ≤ k). range_before lo hi i k v l r c o.1, λ (c : lo ≤ k) (d : k < hi). range_around lo hi i k v l r _ _ c d (from_is lo hi k l (omega arith) o.2 o.0) (to_is lo hi r o.3 (low c)))
 
   -- the keys below one are the first entries
   all_from_0 : {V : Type 0} (es : List (ℕ × V)) → All (λ e. 0 ≤ e.0) es

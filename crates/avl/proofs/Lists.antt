@@ -1,8 +1,10 @@
 -- Entries before a key, the entry at it, and entries after it; and cells as entries.
 use Rattle.std.proofs.Common.{◌≡◌, ℕ, zero, suc, ◌+◌, ◌<◌, ◌≤◌, true, false, cond, ltb, eqb, List, [], ◌∷◌, ◌++◌, map, length, option_map, slice_get, Some, refl, ap, arith}
 use Rattle.std.specs.List.{AllByRecursion as All}
+use Rattle.std.proofs.ByRecursion.{All-append}
 use Rattle.std.proofs.lemmas.Bool.Decides.{nat_tests}
-use Rattle.std.proofs.lemmas.List.Sums.{sum_by-cons}
+use Rattle.std.proofs.lemmas.List.Folds.{fold-map}
+use Rattle.std.proofs.lemmas.List.Sums.{sum_by-append}
 use Rattle.book.specs.Entries.{ascending, held, value_of, inserted, removed, count_below}
 use Rattle.book.proofs.Order.{Above, Strict, above_more}
 use Rattle.book.proofs.Edits.{value_above}
@@ -26,15 +28,9 @@ module _ {V : Type 0} where
   -- a rising list, split at an entry
   pub strict_join : (xs ys : List (ℕ × V)) (e : ℕ × V) → Under e.0 xs → Above e.0 ys → Strict xs → Strict ys → Strict (xs ++ (e ∷ ys))
   strict_join [] ys e u a s t = (a, t)
-  strict_join (x ∷ xs) ys e u a s t = (all_after xs s.0, strict_join xs ys e u.1 a s.1 t)
-    where
-      all_on : (zs : List (ℕ × V)) → Above e.0 zs → Above x.0 zs
-      all_on [] b = tt
-      all_on (z ∷ zs) b = (omega (arith, u.0, b.0), all_on zs b.1)
-
-      all_after : (zs : List (ℕ × V)) → Above x.0 zs → Above x.0 (zs ++ (e ∷ ys))
-      all_after [] b = (u.0, all_on ys a)
-      all_after (z ∷ zs) b = (b.0, all_after zs b.1)
+  strict_join (x ∷ xs) ys e u a s t =
+      let b = u.0 in
+      (All-append (λ z. x.0 < z.0) xs (e ∷ ys) s.0 (b, above_more x.0 e.0 ys (omega arith) a), strict_join xs ys e u.1 a s.1 t)
 
   pub record Split (xs ys : List (ℕ × V)) (e : ℕ × V) : Type 0 where
     pub under : Under e.0 xs
@@ -46,12 +42,8 @@ module _ {V : Type 0} where
   strict_split [] ys e s = record { under = tt; above = s.0; before = tt; after = s.1 }
   strict_split (x ∷ xs) ys e s =
       let z = strict_split xs ys e s.1 in
-      let b = both xs s.0 in
-      record { under = (b.1, z.under); above = z.above; before = (b.0, z.before); after = z.after }
-    where
-      both : (zs : List (ℕ × V)) → Above x.0 (zs ++ (e ∷ ys)) → Above x.0 zs × (x.0 < e.0)
-      both [] a = (tt, a.0)
-      both (z ∷ zs) a = let r = both zs a.1 in ((a.0, r.0), r.1)
+      let Q : ℕ × V → Type 0 = λ y. x.0 < y.0 in
+      record { under = ((all_back Q xs (e ∷ ys) s.0).0, z.under); above = z.above; before = (all_front Q xs (e ∷ ys) s.0, z.before); after = z.after }
 
   -- an entry put in
   pub inserted_before : (k : ℕ) (v : V) (xs ys : List (ℕ × V)) (e : ℕ × V) → k < e.0 → inserted k v (xs ++ (e ∷ ys)) ≡ inserted k v xs ++ (e ∷ ys)
@@ -90,8 +82,7 @@ module _ {V : Type 0} where
   below_after k a (x ∷ xs) zs u h = omega (arith, below_yes k x (xs ++ zs) (omega (arith, u.0)), below_after k a xs zs u.1 h)
 
   pub below_before : (k : ℕ) (xs ys : List (ℕ × V)) (e : ℕ × V) → k ≤ e.0 → Above e.0 ys → count_below k (xs ++ (e ∷ ys)) ≡ count_below k xs
-  below_before k [] ys e h up = below_first k e ys h up
-  below_before k (x ∷ xs) ys e h up = grind (arith, sum_by-cons (λ y. cond (ltb y.0 k) 1 0) x (xs ++ (e ∷ ys)), sum_by-cons (λ y. cond (ltb y.0 k) 1 0) x xs, below_before k xs ys e h up)
+  below_before k xs ys e h up = omega (arith, sum_by-append (λ y. cond (ltb y.0 k) 1 0) xs (e ∷ ys), below_first k e ys h up)
 
   -- where an entry is put in, and taken out
   pub record PutIn (k : ℕ) (v : V) (es : List (ℕ × V)) : Type 0 where
@@ -134,11 +125,6 @@ get_after [] ys n m h = ap (slice_get ys) (omega arith)
 get_after (x ∷ xs) ys zero m h = absurd (omega arith)
 get_after (x ∷ xs) ys (suc n) m h = get_after xs ys n m (omega arith)
 
-pub get_map : {A B : Type 0} (f : A → B) (xs : List A) (n : ℕ) → slice_get (map f xs) n ≡ option_map f (slice_get xs n)
-get_map f [] n = refl
-get_map f (x ∷ xs) zero = refl
-get_map f (x ∷ xs) (suc n) = get_map f xs n
-
 -- cells as entries
 module _ {P : Type 0} where
   pub entries_inserted : (k n : ℕ) (v : P) (cs : List (ℕ × (ℕ × P))) → map entry_of (inserted k (n, v) cs) ≡ inserted k v (map entry_of cs)
@@ -158,8 +144,7 @@ module _ {P : Type 0} where
   entries_value k (c ∷ cs) = grind (arith, nat_tests, entries_value k cs)
 
   pub entries_below : (k : ℕ) (cs : List (ℕ × (ℕ × P))) → count_below k (map entry_of cs) ≡ count_below k cs
-  entries_below k [] = refl
-  entries_below k (c ∷ cs) = grind (arith, sum_by-cons (λ e. cond (ltb e.0 k) 1 0) (entry_of c) (map entry_of cs), sum_by-cons (λ e. cond (ltb e.0 k) 1 0) c cs, entries_below k cs)
+  entries_below k cs = fold-map (λ n e. n + cond (ltb e.0 k) 1 0) entry_of 0 cs
 
   pub entries_ascending : (cs : List (ℕ × (ℕ × P))) → ascending (map entry_of cs) ≡ ascending cs
   entries_ascending [] = refl

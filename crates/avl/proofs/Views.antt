@@ -2,12 +2,13 @@
 use Rattle.std.proofs.Common.{◌≡◌, ℕ, ◌≤◌, ◌<◌, List, ◌+◌, ◌-◌, true, [], ◌∷◌, length, length-append, option_map, slice_get, is_some, Some, refl, sym, ap, ◌∙◌, arith}
 use Rattle.std.proofs.lemmas.Bool.Decides.{nat_tests}
 use Rattle.std.proofs.lemmas.List.{length-map}
+use Rattle.std.proofs.lemmas.Option.{slice_get-map}
 use Rattle.book.specs.Entries.{held, value_of, count_below}
 use Rattle.book.proofs.Order.{ascends}
 use Rattle.book.proofs.Edits.{length_inserted, length_removed}
 use Rattle.book.proofs.Places.{below_yes, value_place, held_value}
 use Rattle.avl.specs.Tree.{Tree, leaf, node, count, cells, entry_of, entries, InOrder, with_entry, without_key, lookup, below, cell_at}
-use Rattle.avl.proofs.Lists.{value_before, value_after, below_before, below_after, get_before, get_after, get_map, entries_held, entries_value, entries_below}
+use Rattle.avl.proofs.Lists.{value_before, value_after, below_before, below_after, get_before, get_after, entries_held, entries_value, entries_below}
 use Rattle.avl.proofs.Cells.{in_order_strict, entries_with, entries_without}
 
 module _ {P : Type 0} where
@@ -55,7 +56,7 @@ module _ {P : Type 0} where
       grind (arith, nat_tests, count_cells l, at_cells n l, at_cells (n - (count l + 1)) r, get_before (cells l) es n, get_after (cells l) es n (n - count l), get_after ((k, (i, v)) ∷ []) (cells r) (n - count l) (n - (count l + 1)))
 
   pub at_entries : (n : ℕ) (t : Tree P) → option_map entry_of (cell_at n t) ≡ slice_get (entries t) n
-  at_entries n t = ap (option_map entry_of) (at_cells n t) ∙ sym (get_map entry_of (cells t) n)
+  at_entries n t = ap (option_map entry_of) (at_cells n t) ∙ sym (slice_get-map entry_of (cells t) n)
 
   pub key_at : (x i : ℕ) (v : P) (t : Tree P) → InOrder t → lookup x t ≡ Some (i, v) → cell_at (below x t) t ≡ Some (x, (i, v))
   key_at x i v t o f = at_cells (below x t) t ∙ ap (slice_get (cells t)) (below_cells x t o) ∙ value_place x (i, v) (cells t) (ascends (cells t) (in_order_strict t o)) (sym (lookup_cells x t o) ∙ f)
