@@ -38,7 +38,8 @@ pub fn check(page: &[u8]) -> Result<Counts, Located>
 }
 
 /// Where the letters of vault k's name begin, and how many there are; none where the names have a
-/// fault or are not more than k.
+/// fault or are not more than k. The names are sound, so their lengths are enough to pass them: a
+/// scan would check each again.
 fn name_span(page: &[u8], k: usize) -> Option<(usize, usize)>
     ensures { MatchOption result (NoName page.now k) (λ x. Span page.now k x.0 x.1) }
 {
