@@ -13,6 +13,14 @@ if [[ ! -x bin/pages ]]; then
     exit 1
 fi
 
+# a change of any crate that the lister stands on has to build it again
+for crate in pages $(sed -n 's/^pages://p' crates.txt); do
+    if ! grep -qE "^build pages( .*)? $crate( |\$)" bin/pages; then
+        echo "examples: bin/pages does not name the crate $crate, which the lister stands on"
+        exit 1
+    fi
+done
+
 # the first call below has to build the program
 rm -f crates/pages/out/pages
 
