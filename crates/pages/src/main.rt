@@ -4,8 +4,8 @@
 #![tactic(auto)]
 
 use fault::Located;
-use page::stage::{Edits, Names, Runs, Stage};
-use page::{AtNames, Reader, Record, Refused, check};
+use page::stage::Stage;
+use page::{AtEdits, AtNames, AtRuns, Reader, Record, Refused, check};
 use page_format::Counts;
 use std::fmt::Display;
 use std::io::Read;
@@ -60,8 +60,7 @@ fn input(rt: &HostRuntime) -> io::Result<Vec<u8>> {
     Ok(page)
 }
 
-/// Tells how many records the section has, and then each of them by a line. A call names the section,
-/// so that a reader at another one is refused.
+/// Tells how many records the section has, and then each of them by a line.
 fn list<'a, S: Stage, L: FnMut(u16, Record<'a>) -> Result<(), Trouble>>(
     rt: &HostRuntime,
     reader: &mut Reader<'a, S>,
@@ -96,14 +95,26 @@ fn say_name(rt: &HostRuntime, k: u16, record: Record) -> Result<(), Trouble> {
     Ok(())
 }
 
+fn list_names(rt: &HostRuntime, names: &mut AtNames) -> Result<(), Trouble> {
+    list(rt, names, |k, record| say_name(rt, k, record))
+}
+
+fn list_runs(rt: &HostRuntime, runs: &mut AtRuns) -> Result<(), Trouble> {
+    list(rt, runs, |_, record| say(rt, record.add()))
+}
+
+fn list_edits(rt: &HostRuntime, edits: &mut AtEdits) -> Result<(), Trouble> {
+    list(rt, edits, |_, record| say(rt, record.edit()))
+}
+
 /// Lists a page that `check` found good.
 fn list_page(rt: &HostRuntime, page: &[u8], counts: Counts) -> Result<(), Trouble> {
     let mut names = AtNames::new(page);
-    list::<Names, _>(rt, &mut names, |k, record| say_name(rt, k, record))?;
+    list_names(rt, &mut names)?;
     let mut runs = names.step()?;
-    list::<Runs, _>(rt, &mut runs, |_, record| say(rt, record.add()))?;
+    list_runs(rt, &mut runs)?;
     let mut edits = runs.step()?;
-    list::<Edits, _>(rt, &mut edits, |_, record| say(rt, record.edit()))?;
+    list_edits(rt, &mut edits)?;
     let size = edits.step()?.len();
     println!(rt; "page of {size} bytes: {counts}")?;
     Ok(())
