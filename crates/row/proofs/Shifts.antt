@@ -1,10 +1,9 @@
--- What turning the slots from a place on by one leaves.
-use Rattle.std.proofs.Common.{◌≡◌, ℕ, ◌+◌, ◌-◌, ◌<◌, List, [], ◌∷◌, ◌++◌, length, get_or, take, drop, set, sym, ap, ap₂, ◌∙◌, arith}
+-- What moving the slots from a place on by one leaves.
+use Rattle.std.proofs.Common.{◌≡◌, ℕ, ◌+◌, ◌-◌, ◌<◌, List, [], ◌∷◌, ◌++◌, length, get_or, take, drop, set, sym, ap, ap₂, ◌∙◌, add-one, arith}
 use borrow.Rule.Slice.PartMut.{mid_of, put_mid}
-use Rattle.std.specs.List.{insert, remove, slice_rotate_right}
-use Rattle.std.proofs.lemmas.List.{append-nil, length-drop, length-take-le, take_rest, take-take, take_at, drop_more, drop_all, drop-take, set_at}
-use Rattle.std.proofs.lemmas.List.Edits.{length-remove}
-use Rattle.std.proofs.lemmas.Slice.{put_mid-rotated}
+use Rattle.std.specs.List.{insert, remove, copy_within, slice_rotate_right}
+use Rattle.std.proofs.lemmas.List.{append-nil, length-drop, length-take-le, take_rest, take-take, take_all, drop_more, drop_all, drop-take, set_at}
+use Rattle.std.proofs.lemmas.List.Edits.{take-paste}
 
 -- the slots from a place on, and a slice with others there
 abbrev tail_of : {X : Type 0} → List X → ℕ → List X
@@ -14,13 +13,16 @@ abbrev with_tail : {X : Type 0} → List X → ℕ → List X → List X
 with_tail xs place ys = put_mid place (length xs - place) xs ys
 
 module _ {X : Type 0} where
-  -- after a turn to the left: without the one at the place
-  pub moved_down : (xs ys : List X) (place : ℕ) → place < length xs → ys ≡ drop 1 (tail_of xs place) ++ take 1 (tail_of xs place) → take (length xs - 1) (with_tail xs place ys) ≡ remove xs place
-  moved_down [] ys place h turned = absurd (omega arith)
-  moved_down (x ∷ xs) ys place h turned =
-      let all = x ∷ xs in
-      ap (take (length all - 1)) (put_mid-rotated place _ all ys x h (omega arith) turned)
-      ∙ take_at (remove all place) (get_or all place x ∷ []) (length all - 1) (omega (arith, length-remove all place h))
+  -- those behind a place moved down
+  pub moved_down : (xs : List X) (place : ℕ) → place < length xs → take (length xs - 1) (copy_within xs (place + 1) (length xs) place) ≡ remove xs place
+  moved_down xs place h =
+      let n = length xs - (place + 1) in
+      let s = drop (place + 1) xs in
+      let most : length xs - 1 ≡ place + n = omega arith in
+      let long : length s ≡ n = length-drop (place + 1) xs in
+      ap (λ j. take j (copy_within xs (place + 1) (length xs) place)) most
+      ∙ take-paste xs place s n (omega arith) (omega arith)
+      ∙ ap (λ l. take place xs ++ l) (take_all n s (omega arith) ∙ ap (λ j. drop j xs) (add-one place))
 
   -- after a turn to the right and a write: with one more, at the place
   pub moved_up : (xs ys : List X) (place : ℕ) (x : X) → place < length xs → ys ≡ slice_rotate_right (tail_of xs place) 1 → set (with_tail xs place ys) place x ≡ insert (take (length xs - 1) xs) place x

@@ -16,13 +16,13 @@ pub(crate) fn put_in<P: Copy>(slots: &mut [Entry<P>], place: usize, entry: Entry
     slots[place] = entry;
 }
 
-/// Takes the record at a place out of a slice: those behind it move down by one, and the last slot
-/// is free.
+/// Takes the record at a place out of a slice: those behind it move down by one. The last slot is
+/// free, and keeps what it held.
 pub(crate) fn take_out<P: Copy>(slots: &mut [Entry<P>], place: usize)
     requires { place < length slots.old }
     ensures { take (length slots.old - 1) slots.new ≡ taken_out slots.old place }
 {
-    slots[place..].rotate_left(1);
+    slots.copy_within(place + 1.., place);
 }
 
 /// The values of the records, joined from left to right.
