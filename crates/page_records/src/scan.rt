@@ -39,7 +39,10 @@ impl<'a> Scan<'a> {
         }
     }
 
+    // These are inlined, so that where the section is known it is not looked at for each record.
+
     /// How many records the section has, or the fault of its count.
+    #[inline(always)]
     pub fn count(&self) -> Result<u16, Located>
         ensures value { result ≡ counted_at self.now.section self.now.page.now self.now.cursor.start }
         ensures few { IfOk result (λ n. n ≤ limit self.now.section) }
@@ -51,6 +54,7 @@ impl<'a> Scan<'a> {
     }
 
     /// Takes the record at the cursor, or tells its fault.
+    #[inline(always)]
     fn take(&mut self) -> Result<Record<'a>, Located>
         requires { self.old.cursor.read < 2048 }
         ensures same { (self.new.page ≡ self.old.page) × (self.new.section ≡ self.old.section) }
@@ -66,6 +70,7 @@ impl<'a> Scan<'a> {
     }
 
     /// The next record, none after the last, or the fault, which leaves the cursor where it was.
+    #[inline(always)]
     pub fn next(&mut self) -> Result<Option<Record<'a>>, Located>
         ensures same { (self.new.page ≡ self.old.page) × (self.new.section ≡ self.old.section) }
         ensures next { Next self.old.section self.old.page.now self.old.cursor self.new.cursor result }
@@ -77,6 +82,7 @@ impl<'a> Scan<'a> {
     }
 
     /// Where the section ends, or its first fault from the cursor on.
+    #[inline(always)]
     pub fn end(&self) -> Result<usize, Located>
         ensures { result ≡ rest_of self.now.section self.now.page.now self.now.cursor }
     {
