@@ -8,12 +8,28 @@ use Rattle.book.specs.Entries.{ascending, held, value_of, inserted, removed}
 use Rattle.book.proofs.Order.{Above, Strict, has_cons, above_more, strict, ascends}
 
 module _ {V : Type 0} where
+  -- at which test an insert puts its entry, and a removal takes one out
+  pub inserted_here : (k : ℕ) (v : V) (e : ℕ × V) (es : List (ℕ × V)) → k < e.0 → inserted k v (e ∷ es) ≡ (k, v) ∷ e ∷ es
+  inserted_here k v e es h = grind (arith, nat_tests)
+
+  pub inserted_later : (k : ℕ) (v : V) (e : ℕ × V) (es : List (ℕ × V)) → e.0 ≤ k → inserted k v (e ∷ es) ≡ e ∷ inserted k v es
+  inserted_later k v e es h = grind (arith, nat_tests)
+
+  pub removed_here : (k : ℕ) (e : ℕ × V) (es : List (ℕ × V)) → e.0 ≡ k → removed k (e ∷ es) ≡ es
+  removed_here k e es h = grind (arith, nat_tests)
+
+  pub removed_later : (k : ℕ) (e : ℕ × V) (es : List (ℕ × V)) → (e.0 ≡ k → ⊥) → removed k (e ∷ es) ≡ e ∷ removed k es
+  removed_later k e es h = grind (arith, nat_tests)
+
+  pub held_not : (k : ℕ) (e : ℕ × V) (es : List (ℕ × V)) → held k (e ∷ es) ≡ false → (e.0 ≡ k → ⊥) × (held k es ≡ false)
+  held_not k e es h = let o = or_parts (eqb e.0 k) (held k es) h in (eqb-false e.0 k o.0, o.1)
+
   -- an entry is put in
-  all_inserted : (P : ℕ × V → Type 0) (k : ℕ) (v : V) (es : List (ℕ × V)) → P (k, v) → All P es → All P (inserted k v es)
+  pub all_inserted : (P : ℕ × V → Type 0) (k : ℕ) (v : V) (es : List (ℕ × V)) → P (k, v) → All P es → All P (inserted k v es)
   all_inserted P k v [] p a = (p, tt)
   all_inserted P k v (e ∷ es) p a = grind (arith, nat_tests, p, a.0, a.1, all_inserted P k v es p a.1)
 
-  inserted_strict : (k : ℕ) (v : V) (es : List (ℕ × V)) → Strict es → held k es ≡ false → Strict (inserted k v es)
+  pub inserted_strict : (k : ℕ) (v : V) (es : List (ℕ × V)) → Strict es → held k es ≡ false → Strict (inserted k v es)
   inserted_strict k v [] s h = (tt, tt)
   inserted_strict k v (e ∷ es) s h =
       let n = or_parts (eqb e.0 k) (held k es) h in
@@ -50,11 +66,11 @@ module _ {V : Type 0} where
   value_inserted j k v (e ∷ es) h = grind (arith, nat_tests, value_inserted j k v es)
 
   -- an entry is taken out
-  all_removed : (P : ℕ × V → Type 0) (k : ℕ) (es : List (ℕ × V)) → All P es → All P (removed k es)
+  pub all_removed : (P : ℕ × V → Type 0) (k : ℕ) (es : List (ℕ × V)) → All P es → All P (removed k es)
   all_removed P k [] a = tt
   all_removed P k (e ∷ es) a = grind (arith, nat_tests, a.0, a.1, all_removed P k es a.1)
 
-  removed_strict : (k : ℕ) (es : List (ℕ × V)) → Strict es → Strict (removed k es)
+  pub removed_strict : (k : ℕ) (es : List (ℕ × V)) → Strict es → Strict (removed k es)
   removed_strict k [] s = tt
   removed_strict k (e ∷ es) s = cond_both (eqb e.0 k) _ _ Strict (λ _. s.1) (λ _. (all_removed (λ x. e.0 < x.0) k es s.0, removed_strict k es s.1))
 
@@ -94,6 +110,10 @@ module _ {V : Type 0} where
   pub value_above : (k : ℕ) (es : List (ℕ × V)) → Above k es → value_of k es ≡ None
   value_above k [] a = refl
   value_above k (e ∷ es) a = grind (arith, nat_tests, a.0, value_above k es a.1)
+
+  pub held_above : (k : ℕ) (es : List (ℕ × V)) → Above k es → held k es ≡ false
+  held_above k [] a = refl
+  held_above k (e ∷ es) a = grind (arith, nat_tests, a.0, held_above k es a.1)
 
   value_removed_strict : (j k : ℕ) (es : List (ℕ × V)) → Strict es → value_of j (removed k es) ≡ cond (eqb k j) None (value_of j es)
   value_removed_strict j k [] s = grind (arith, nat_tests)

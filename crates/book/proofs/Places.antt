@@ -1,10 +1,10 @@
 -- Keys and places: how many keys are below one, what stands at a place, and that a stretch of keys is a stretch of places.
-use Rattle.std.proofs.Common.{◌≡◌, ℕ, zero, suc, ◌-◌, ◌<◌, ◌≤◌, true, cond, ltb, List, [], ◌∷◌, ◌++◌, take, drop, is_some, Some, refl, ap, ◌∙◌, ⊎_elim, arith}
+use Rattle.std.proofs.Common.{◌≡◌, ℕ, zero, suc, ◌-◌, ◌<◌, ◌≤◌, true, cond, ltb, List, [], ◌∷◌, ◌++◌, length, take, drop, is_some, Some, refl, ap, ◌∙◌, ⊎_elim, arith}
 use Rattle.std.specs.List.{AllByRecursion as All, slice_get}
 use Rattle.std.proofs.ByRecursion.{All-weaker}
 use Rattle.std.proofs.lemmas.Bool.{cases_lt}
 use Rattle.std.proofs.lemmas.Bool.Decides.{nat_tests}
-use Rattle.std.proofs.lemmas.List.Sums.{sum_by-cons}
+use Rattle.std.proofs.lemmas.List.Sums.{sum_by-cons, count_by-le-length}
 use Rattle.book.specs.Entries.{ascending, held, value_of, count_below, between}
 use Rattle.book.proofs.Order.{Above, Strict, above_more, strict}
 use Rattle.book.proofs.Edits.{value_above}
@@ -21,11 +21,14 @@ module _ {V : Type 0} where
   below_none k [] a = refl
   below_none k (e ∷ es) a = below_no_more k e es a.0 ∙ below_none k es a.1
 
-  from_above : (k a : ℕ) (es : List (ℕ × V)) → k ≤ a → Above a es → All (λ e. k ≤ e.0) es
+  pub from_above : (k a : ℕ) (es : List (ℕ × V)) → k ≤ a → Above a es → All (λ e. k ≤ e.0) es
   from_above k a es h up = All-weaker (λ e. a < e.0) (λ e. k ≤ e.0) (λ e l. omega arith) es up
 
   pub below_first : (k : ℕ) (e : ℕ × V) (es : List (ℕ × V)) → k ≤ e.0 → Above e.0 es → count_below k (e ∷ es) ≡ 0
   below_first k e es h up = below_no_more k e es h ∙ below_none k es (from_above k e.0 es h up)
+
+  pub below_le : (k : ℕ) (es : List (ℕ × V)) → count_below k es ≤ length es
+  below_le k es = count_by-le-length (λ e. ltb e.0 k) es
 
   pub below_mono : (j k : ℕ) (es : List (ℕ × V)) → j ≤ k → count_below j es ≤ count_below k es
   below_mono j k [] h = omega arith
@@ -46,7 +49,7 @@ module _ {V : Type 0} where
   place_below es n e s h = place_below_strict es n e (strict es s) h
 
   -- what is looked up stands at the number of keys below it, and nowhere else
-  value_place_strict : (k : ℕ) (v : V) (es : List (ℕ × V)) → Strict es → value_of k es ≡ Some v → slice_get es (count_below k es) ≡ Some (k, v)
+  pub value_place_strict : (k : ℕ) (v : V) (es : List (ℕ × V)) → Strict es → value_of k es ≡ Some v → slice_get es (count_below k es) ≡ Some (k, v)
   value_place_strict k v [] s h = grind (arith, nat_tests)
   value_place_strict k v (e ∷ es) s h = grind (arith, nat_tests, below_first k e es, below_yes k e es, value_place_strict k v es s.1, λ (l : k ≤ e.0). value_above k es (above_more k e.0 es l s.0))
 
@@ -58,7 +61,7 @@ module _ {V : Type 0} where
   held_value k (e ∷ es) = grind (arith, nat_tests, held_value k es)
 
   -- a stretch of keys
-  between_above : (lo hi : ℕ) (es : List (ℕ × V)) → All (λ e. hi ≤ e.0) es → between lo hi es ≡ []
+  pub between_above : (lo hi : ℕ) (es : List (ℕ × V)) → All (λ e. hi ≤ e.0) es → between lo hi es ≡ []
   between_above lo hi [] a = refl
   between_above lo hi (e ∷ es) a = grind (arith, nat_tests, a.0, between_above lo hi es a.1)
 

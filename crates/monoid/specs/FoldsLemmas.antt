@@ -1,9 +1,15 @@
--- Folds of a list, of one value before it, and of two lists.
-use Rattle.std.specs.Prelude.{◌≡◌, ℕ, List, [], ◌∷◌, ◌++◌, map, take, drop, fold}
+-- Folds of a list, of one value before it or after it, and of two lists.
+use Rattle.std.specs.Prelude.{◌≡◌, ℕ, ◌+◌, ◌<◌, List, [], ◌∷◌, ◌++◌, map, length, take, drop, fold, slice_index_or}
 use Rattle.std.proofs.Common.{sym, ap, ◌∙◌, take-append-drop}
-use Rattle.std.proofs.lemmas.List.{map-append}
-use Rattle.std.proofs.lemmas.List.Sums.{fold-append}
+use Rattle.std.proofs.lemmas.List.{take_more, map_push, map-append}
+use Rattle.std.proofs.lemmas.List.Sums.{fold_push, fold-append}
 use Rattle.monoid.specs.Folds.{total}
+
+-- a loop's step: one record more
+pub total_more : {P M : Type 0} (e : M) (op : M → M → M) (reads : P → M) (ps : List P) (i : ℕ) (p : P) → i < length ps → p ≡ slice_index_or ps i p → op (total e op (map reads (take i ps))) (reads p) ≡ total e op (map reads (take (i + 1) ps))
+total_more e op reads ps i p within read =
+    let pushed : take (i + 1) ps ≡ take i ps ++ (p ∷ []) = take_more ps i p within ∙ ap (λ y. take i ps ++ (y ∷ [])) (sym read) in
+    sym (ap (λ qs. total e op (map reads qs)) pushed ∙ ap (total e op) (map_push reads (take i ps) p) ∙ fold_push op e (map reads (take i ps)) (reads p))
 
 module _ {M : Type 0} (e : M) (op : M → M → M) (left : (x : M) → op e x ≡ x) (right : (x : M) → op x e ≡ x) (assoc : (x y z : M) → op (op x y) z ≡ op x (op y z)) where
   -- a fold from s is s joined with the fold from the unit

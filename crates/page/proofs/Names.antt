@@ -1,5 +1,5 @@
 -- The names of a page, one after another.
-use Rattle.std.proofs.Common.{◌≡◌, ℕ, suc, ◌+◌, ◌-◌, ◌<◌, ◌≤◌, List, [], length, get_or, take, drop, Ok, sym, refl, ap, ◌∙◌, add-zero, add-one, arith, length-append, length-drop}
+use Rattle.std.proofs.Common.{◌≡◌, ℕ, suc, ◌+◌, ◌-◌, ◌<◌, ◌≤◌, List, [], length, get_or, take, drop, Ok, sym, refl, ap, ◌∙◌, add-zero, add-one, arith, rules, length-append, length-drop}
 use Rattle.std.specs.List.{flat_map}
 use Rattle.std.proofs.lemmas.List.{drop-drop, take_more, flat_map_more, get_or-drop, length-take-le}
 use Rattle.fault.specs.declared.Section.TheVariants.{Names}
@@ -7,7 +7,7 @@ use Rattle.page_format.specs.Grammar.{name_bytes}
 use Rattle.page_format.specs.Reading.{walk, count_of, items, name_of, section_end, section_items}
 use Rattle.page_format.proofs.Records.{fault_none_size}
 use Rattle.page_format.proofs.Walks.{walk_first}
-use Rattle.page.specs.Wholes.{Span}
+use Rattle.page.specs.Wholes.{section_read, Span}
 use Rattle.page.proofs.Tallies.{length_items}
 
 -- of n sound names i have been passed, and the next one begins at the byte `at`
@@ -21,6 +21,10 @@ pub record Reached (p : List ℕ) (n i at : ℕ) : Type 0 where
 first_byte : (p : List ℕ) (at : ℕ) → get_or (drop at p) 0 0 ≡ get_or p at 0
 first_byte p at = get_or-drop at p 0 0 ∙ ap (λ (j : ℕ). get_or p j 0) (add-zero at)
 
+-- at first no name has been passed
+pub reached_first : (p : List ℕ) (n e : ℕ) → section_end Names p 0 ≡ Ok e → count_of Names p ≡ n → Reached p n 0 1
+reached_first p n e h c = search rules
+
 -- the next name is sound
 pub reached_here : (p : List ℕ) (n i at : ℕ) → i < n → Reached p n i at → at + 1 + get_or p at 0 ≤ length p
 reached_here p n i at h r =
@@ -30,6 +34,10 @@ reached_here p n i at h r =
     let l = length-drop at p in
     let g = first_byte p at in
     omega arith
+
+-- the same, with the count as the code has it
+pub reached_within : (p : List ℕ) (count e i at : ℕ) → section_read Names p 0 ≡ Ok (count, e) → i < count → Reached p count i at → at + 1 + get_or p at 0 ≤ length p
+reached_within p count e i at s h r = reached_here p count i at h r
 
 -- it is the i-th name
 pub reached_name : (p : List ℕ) (n i at : ℕ) → i < n → Reached p n i at → get_or (section_items Names p 0) i [] ≡ name_of (drop at p)
@@ -89,3 +97,7 @@ reached_span p n k at h r =
       within = f;
       name = record { sound = r.sound; below = rw r.count h; name = sym i ∙ sym (reached_name p n k at h r); begins = omega arith; lies = ap (λ (j : ℕ). take j (drop (at + 1) p)) (sym t) };
     }
+
+-- the same, with the count as the code has it
+pub span_at : (p : List ℕ) (count e k at : ℕ) → section_read Names p 0 ≡ Ok (count, e) → k < count → Reached p count k at → Span p k (at + 1) (get_or p at 0)
+span_at p count e k at s h r = reached_span p count k at h r

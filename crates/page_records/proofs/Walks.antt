@@ -1,17 +1,19 @@
 -- How a call of `next` and the walk over what is left of a section go together.
-use Rattle.std.proofs.Common.{◌≡◌, ℕ, suc, ◌+◌, ◌-◌, ◌<◌, ◌≤◌, List, drop, Some, None, Ok, Err, Option, refl, ◌∙◌, add-one, arith}
+use Rattle.std.proofs.Common.{◌≡◌, ℕ, suc, ◌+◌, ◌-◌, ◌<◌, ◌≤◌, List, drop, Some, None, Ok, Err, Option, refl, ◌∙◌, add-one, arith, lit≤}
 use Rattle.std.proofs.lemmas.List.{drop-drop}
 use Rattle.std.proofs.lemmas.Bool.{le-leb, lt-leb}
 use Rattle.fault.specs.declared.Located.{Located}
 use Rattle.fault.specs.declared.PageFault.{PageFault}
 use Rattle.fault.specs.declared.Section.{Section}
+use Rattle.fault.specs.declared.Section.TheVariants.{Names, Runs, Edits}
 use Rattle.fault.specs.Places.{located}
-use Rattle.page_format.specs.Reading.{record_fault, record_size, count_fault, count_of}
+use Rattle.page_format.specs.Grammar.{limit}
+use Rattle.page_format.specs.Reading.{walk, record_fault, record_size, count_fault, count_of, section_rest}
 use Rattle.page_format.proofs.Steps.{unless_ok}
 use Rattle.page_records.specs.declared.cursor.Cursor.{Cursor}
 use Rattle.page_records.specs.declared.record.Record.{Record}
 use Rattle.page_records.specs.Takes.{Took}
-use Rattle.page_records.specs.Steps.{counted_at, ended_at, next_size, moved, rest_of}
+use Rattle.page_records.specs.Steps.{sized, counted_at, ended_at, next_size, moved, rest_of}
 
 -- how many records the cursor's section has
 abbrev pub count : Section → List ℕ → Cursor → ℕ
@@ -43,6 +45,43 @@ next_some x p c h l r =
 -- a count that is told has no fault
 counted_ok : (x : Section) (p : List ℕ) (start n : ℕ) → counted_at x p start ≡ Ok n → (count_fault x (drop start p) ≡ None) × (count_of x (drop start p) ≡ n)
 counted_ok x p start n h = let q = unless_ok (count_fault x (drop start p)) (λ f. located f x 0 start) (Ok (count_of x (drop start p))) n h in (q.0, cc)
+
+-- where the count is sound, what is left of the section is a walk
+pub rest_from_count : (x : Section) (p : List ℕ) (start count read at : ℕ) → counted_at x p start ≡ Ok count → section_rest x p start read at ≡ walk x (count - read) (suc read) at (drop at p)
+rest_from_count x p start count read at e = let q = counted_ok x p start count e in rw (q.0, q.1)
+
+-- what a size says of the record
+pub sized_ok : (x : Section) (s : List ℕ) (n : ℕ) → sized x s ≡ Ok n → (record_fault x s ≡ None) × (record_size x s ≡ n)
+sized_ok x s n e = known (record_fault x s) refl
+  where
+    known : (o : Option PageFault) → record_fault x s ≡ o → (record_fault x s ≡ None) × (record_size x s ≡ n)
+    known None eo = (eo, cc)
+    known (Some f) eo = cc
+
+-- past a sound record the walk goes on at the next one
+pub walk_more : (x : Section) (p : List ℕ) (count k at e : ℕ) → k < count → ended_at x p (k + 1) at ≡ Ok e → walk x (count - k) (suc k) at (drop at p) ≡ walk x (count - (k + 1)) (suc (k + 1)) e (drop e p)
+walk_more x p count k at e h q =
+    let m : count - k ≡ suc (count - (k + 1)) = omega arith in
+    let s = unless_ok (record_fault x (drop at p)) (λ f. located f x (k + 1) at) (Ok (at + record_size x (drop at p))) e q in
+    let n : at + record_size x (drop at p) ≡ e = cc in
+    rw (m, s.0, drop-drop (record_size x (drop at p)) at p, n, add-one k)
+
+-- and at a faulty one it stops there
+pub walk_stop : (x : Section) (p : List ℕ) (count k at : ℕ) (f : Located) → k < count → ended_at x p (k + 1) at ≡ Err f → walk x (count - k) (suc k) at (drop at p) ≡ Err f
+walk_stop x p count k at f h q = known (record_fault x (drop at p)) refl
+  where
+    m : count - k ≡ suc (count - (k + 1))
+    m = omega arith
+
+    known : (o : Option PageFault) → record_fault x (drop at p) ≡ o → walk x (count - k) (suc k) at (drop at p) ≡ Err f
+    known None eo = cc
+    known (Some g) eo = cc (m, add-one k)
+
+-- no section may have more records than the edits
+pub limit_le : (x : Section) → limit x ≤ 2048
+limit_le Names = lit≤ tt
+limit_le Runs = lit≤ tt
+limit_le Edits = lit≤ tt
 
 -- a record that is taken leaves what the walk over the rest comes to
 pub rest_more : (x : Section) (p : List ℕ) (c d : Cursor) (n : ℕ) (r : Record) → counted_at x p c.start ≡ Ok n → c.read < n → Took x p c d (Ok r) → rest_of x p d ≡ rest_of x p c

@@ -37,4 +37,4 @@ returns-clause-after g c =
     let room : row.count < row_capacity row = omega (arith, row.within, row.small, c.room.ensures, c.if-count-room.false) in
     let put = entries_put reads row k c.in-Err.place (row.count + 1) c.slice_mut.result.now c.put_in.new.slots c.slice_mut.ensures.value c.put_in.auto.slots (omega arith) record { key = k; value = c.plain.result } refl refl at c.put_in.ensures in
     let value : reads c.plain.result ≡ c.args.value = ap reads c.plain.ensures ∙ g.met.M.Monoid.back c.args.value in
-    put ∙ ap (λ v. inserted k v es) value ∙ insert_done k c.args.value es (row_capacity row) at.absent (λ full. c.if-count-room.false (sym (count_is reads row) ∙ full ∙ sym c.room.ensures))
+    put ∙ ap (λ v. inserted k v es) value ∙ (insert_done k c.args.value es (row_capacity row) at.absent (λ full. c.if-count-room.false (sym (count_is reads row) ∙ full ∙ sym c.room.ensures))).1
