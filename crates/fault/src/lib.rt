@@ -28,7 +28,7 @@ impl BookFault {
     pub fn number(self) -> u8
         ensures { result ≡ book_number self }
     {
-        self as u8
+        self as u8 // 20, 21 or 22
     }
 }
 
@@ -208,7 +208,7 @@ impl Section {
     pub fn number(self) -> u8
         ensures { result ≡ section_number self }
     {
-        self as u8
+        self as u8 // 1, 2 or 3
     }
 }
 
