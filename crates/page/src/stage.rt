@@ -1,5 +1,7 @@
 //! The sections of a page as types, in their order.
 
+ghost use Rattle.std.specs.Prelude.{◌≡◌, ◌+◌, refl};
+ghost use Rattle.fault.specs.Numbers.{section_number};
 ghost use Rattle.fault.specs.declared.Section.{Section};
 ghost use Rattle.fault.specs.declared.Section.TheVariants as section;
 
@@ -12,9 +14,11 @@ pub trait Stage {
     ghost SECTION: { Section };
 }
 
-/// A section that another one follows.
+/// A section that another one follows, the next in a page's order.
 pub trait Before: Stage {
     type Next: Stage;
+
+    ghost follows: { section_number Self.Next.SECTION ≡ section_number Self.SECTION + 1 };
 }
 
 /// The first section.
@@ -46,8 +50,12 @@ impl Stage for Edits {
 
 impl Before for Names {
     type Next = Runs;
+
+    ghost follows = { refl };
 }
 
 impl Before for Runs {
     type Next = Edits;
+
+    ghost follows = { refl };
 }
